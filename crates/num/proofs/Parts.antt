@@ -1,0 +1,42 @@
+-- A part of a slice that is lent on: what is lent, and the whole once the part has come back. `&mut s[a..]` reaches to the end.
+-- Assumes nothing.
+use Prim.Native.Nat.{ℕ, _-_, _+_, _≤_}
+use mathlib.Core.Path.{_≡_, refl, sym, ap, _∙_}
+use mathlib.Core.List.{List, _++_, append-nil, append-assoc}
+use native.Mathlib.Omega.{arith}
+use lib.ListN.{length, take, drop, length-drop, drop-of-length-le}
+use lib.Seq.{take-all, take-at, drop-at, drop-drop}
+use borrow.Rule.Slice.PartMut.{putMid, postOf}
+
+-- the part that is lent is the rest of the list
+pub part-lent : (a : ℕ) (s : List ℕ) → take (length s - a) (drop a s) ≡ drop a s
+part-lent a s = take-all (length s - a) (drop a s) (omega (arith, length-drop a s))
+
+-- nothing stands behind it
+pub part-back : (a : ℕ) (s p : List ℕ) → take a s ++ (p ++ drop (length s - a) (drop a s)) ≡ take a s ++ p
+part-back a s p =
+    ap (λ (l : List ℕ). take a s ++ l) (
+    ap (λ (l : List ℕ). p ++ l) (drop-of-length-le (drop a s) {i = length s - a} (omega (arith, length-drop a s))) ∙ append-nil p
+    )
+
+-- t is put at the front of the part from a on: the whole is s with t there
+pub front-put : (a : ℕ) (t s : List ℕ)
+    → take a s ++ ((t ++ drop (length t) (take (length s - a) (drop a s))) ++ drop (length s - a) (drop a s)) ≡ take a s ++ (t ++ drop (a + length t) s)
+front-put a t s = part-back a s (t ++ drop (length t) (take (length s - a) (drop a s))) ∙ rw (part-lent a s, drop-drop)
+
+-- h is put at the front of s, then t at the front of what follows it: s now begins with h and t, and is itself behind them
+pub front-twice : (n : ℕ) (h t s o p : List ℕ) → length h ≡ n → o ≡ h ++ drop n s → p ≡ t ++ drop (length t) (take (length o - n) (drop n o))
+    → take n o ++ (p ++ drop (length o - n) (drop n o)) ≡ (h ++ t) ++ drop (n + length t) s
+front-twice n h t s o p e eo ep =
+    part-back n o p
+    ∙ rw (ep, part-lent, eo, take-at h (drop n s) n e, drop-at h (drop n s) n e, drop-drop, append-assoc)
+
+-- a memory cut in two at a: the front lent and come back as p, then the rest lent and come back as q
+module _ (a : ℕ) (m p : List ℕ) (long : length p ≡ a) where
+  -- what the second loan is lent
+  pub rest-lent : take (length (p ++ drop a m) - a) (drop a (p ++ drop a m)) ≡ drop a m
+  rest-lent = part-lent a (p ++ drop a m) ∙ drop-at p (drop a m) a long
+
+  -- what is there once both are back
+  pub both-back : (q : List ℕ) → putMid a (length (p ++ drop a m) - a) (p ++ drop a m) q ≡ p ++ q
+  both-back q = part-back a (p ++ drop a m) q ∙ rw (take-at p (drop a m) a long)

@@ -1,0 +1,82 @@
+-- Laws of little-endian words: bytes and the number that they hold go over into each other. Assumes nothing.
+use Prim.Native.Nat.{ℕ, zero, suc, _+_, _-_, _*_, _/_, _%_, _^_, _≤_, _<_}
+use mathlib.Core.Path.{_≡_, refl, sym, ap, _∙_}
+use mathlib.Core.List.{List, [], _∷_, _++_}
+use native.Mathlib.Nat.{mul-assoc}
+use native.Mathlib.Numerals.{add-one}
+use native.Mathlib.Omega.{arith}
+use lib.ListN.{length, getD, take, drop, length-drop}
+use lib.Seq.{length-take-le, drop-cons, drop-drop, take-add, take-at, drop-at}
+use Rattle.num.specs.Words.{le, leAt, leBytes, putLe}
+use Rattle.num.proofs.Parts.{front-put}
+
+pub length-leBytes : (k n : ℕ) → length (leBytes k n) ≡ k
+length-leBytes zero n = refl
+length-leBytes (suc k) n = ap suc (length-leBytes k (n / 256))
+
+-- each is a byte
+pub byte-leBytes : (k n i : ℕ) → getD (leBytes k n) i 0 < 256
+byte-leBytes zero n i = omega arith
+byte-leBytes (suc k) n zero = omega arith
+byte-leBytes (suc k) n (suc i) = byte-leBytes k (n / 256) i
+
+-- the number of the bytes of a number that k bytes can hold
+pub le-leBytes : (k n : ℕ) → n < 256 ^ k → le (leBytes k n) ≡ n
+unfolding le
+le-leBytes zero n h = omega arith
+le-leBytes (suc k) n h =
+    let p : 256 ^ suc k ≡ 256 * 256 ^ k = omega arith in
+    let e : le (leBytes k (n / 256)) ≡ n / 256 = le-leBytes k (n / 256) (omega arith) in
+    omega arith
+
+-- the bytes of the number that bytes hold
+pub leBytes-le : (bytes : List ℕ) → ((i : ℕ) → getD bytes i 0 < 256) → leBytes (length bytes) (le bytes) ≡ bytes
+unfolding le
+leBytes-le [] f = refl
+leBytes-le (b ∷ bs) f =
+    let h : b < 256 = f 0 in
+    let low : (b + 256 * le bs) % 256 ≡ b = omega arith in
+    let high : (b + 256 * le bs) / 256 ≡ le bs = omega arith in
+    rw (low, high, leBytes-le bs (λ i. f (suc i)))
+
+-- a word of k bytes is below 256 ^ k
+pub le-bound : (bytes : List ℕ) → ((i : ℕ) → getD bytes i 0 < 256) → le bytes < 256 ^ length bytes
+unfolding le
+le-bound [] f = omega arith
+le-bound (b ∷ bs) f =
+    let h : b < 256 = f 0 in let k = le-bound bs (λ i. f (suc i)) in
+    let p : 256 ^ suc (length bs) ≡ 256 * 256 ^ length bs = omega arith in
+    omega arith
+
+-- a word in two parts: the first j bytes, and the k after them
+le-append : (xs ys : List ℕ) → le (xs ++ ys) ≡ le xs + 256 ^ length xs * le ys
+unfolding le
+le-append [] ys = omega arith
+le-append (x ∷ xs) ys =
+    let e = le-append xs ys in
+    let q : 256 ^ suc (length xs) ≡ 256 * 256 ^ length xs = omega arith in
+    let p : 256 ^ suc (length xs) * le ys ≡ 256 * (256 ^ length xs * le ys) = ap (λ (z : ℕ). z * le ys) q ∙ mul-assoc 256 (256 ^ length xs) (le ys) in
+    omega arith
+
+pub le-join : (s : List ℕ) (i j k : ℕ) → i + j ≤ length s → leAt s i (j + k) ≡ leAt s i j + 256 ^ j * leAt s (i + j) k
+le-join s i j k h =
+    let long : length (take j (drop i s)) ≡ j = length-take-le j (drop i s) (omega (arith, length-drop i s)) in
+    ap le (take-add j k (drop i s)) ∙ le-append (take j (drop i s)) (take k (drop j (drop i s))) ∙ rw (long, drop-drop)
+
+-- a word of two bytes
+pub le-pair : (s : List ℕ) (i : ℕ) → i + 2 ≤ length s → leAt s i 2 ≡ getD s i 0 + 256 * getD s (i + 1) 0
+unfolding le
+le-pair s i h = rw (drop-cons s i 0 (omega arith), drop-cons s (suc i) 0 (omega arith), add-one) (omega arith)
+
+-- the bytes of a word, put at the front of the part from i on
+pub put-le : (k i n : ℕ) (b s p : List ℕ) → b ≡ leBytes k n → p ≡ b ++ drop (length b) (take (length s - i) (drop i s))
+    → take i s ++ (p ++ drop (length s - i) (drop i s)) ≡ putLe k s i n
+put-le k i n b s p eb ep =
+    let long : length b ≡ k = ap length eb ∙ length-leBytes k n in
+    rw (ep, front-put i b s, long, eb)
+
+-- what is written is read back
+pub read-put : (k i n : ℕ) (bytes : List ℕ) → i ≤ length bytes → n < 256 ^ k → leAt (putLe k bytes i n) i k ≡ n
+read-put k i n bytes h l =
+    rw (drop-at (take i bytes) (leBytes k n ++ drop (i + k) bytes) i (length-take-le i bytes h), take-at (leBytes k n) (drop (i + k) bytes) k (length-leBytes k n))
+    (le-leBytes k n l)

@@ -1,0 +1,4 @@
+pub mod Root
+pub mod Sum
+pub mod Wrap
+pub mod Words
