@@ -3,6 +3,7 @@ pub mod Bits
 pub mod Byte
 pub mod Diff
 pub mod Fill
+pub mod Logic
 pub mod Parts
 pub mod Read
 pub mod Root

@@ -4,9 +4,10 @@ use mathlib.Core.Path.{_≡_, refl, sym, ap, _∙_}
 use mathlib.Core.List.{List, [], _∷_, _++_}
 use native.Mathlib.Nat.{mul-assoc}
 use native.Mathlib.Numerals.{add-one}
+use native.Mathlib.Decide.{decLt}
 use native.Mathlib.Omega.{arith}
-use lib.ListN.{length, getD, take, drop, length-drop}
-use lib.Seq.{length-take-le, drop-cons, drop-drop, take-add, take-at, drop-at}
+use lib.ListN.{length, getD, take, drop, length-take, length-drop, List·getD-eq-default}
+use lib.Seq.{getD-take, getD-drop, length-take-le, drop-cons, drop-drop, take-add, take-at, drop-at}
 use Rattle.num.specs.Words.{le, leAt, leBytes, putLe}
 use Rattle.num.proofs.Parts.{front-put}
 
@@ -38,6 +39,19 @@ leBytes-le (b ∷ bs) f =
     let low : (b + 256 * le bs) % 256 ≡ b = omega arith in
     let high : (b + 256 * le bs) / 256 ≡ le bs = omega arith in
     rw (low, high, leBytes-le bs (λ i. f (suc i)))
+
+-- what holds of each element, and of the default, holds of each of a part
+pub byte-part : (s : List ℕ) → ((i : ℕ) → getD s i 0 < 256) → (a k i : ℕ) → getD (take k (drop a s)) i 0 < 256
+byte-part s f a k i = go (decLt i k)
+  where
+    go : Dec (i < k) → getD (take k (drop a s)) i 0 < 256
+    go (yes h) = rw (getD-take k (drop a s) i 0 h, getD-drop a s i 0) (f (a + i))
+    go (no g) = rw (List·getD-eq-default (take k (drop a s)) 0 {n = i} (omega (arith, length-take k (drop a s)))) (omega arith)
+
+pub leBytes-leAt : (s : List ℕ) → ((i : ℕ) → getD s i 0 < 256) → (a k : ℕ) → a + k ≤ length s → leBytes k (leAt s a k) ≡ take k (drop a s)
+leBytes-leAt s f a k h =
+    let long : length (take k (drop a s)) ≡ k = length-take-le k (drop a s) (omega (arith, length-drop a s)) in
+    ap (λ (n : ℕ). leBytes n (leAt s a k)) (sym long) ∙ leBytes-le (take k (drop a s)) (byte-part s f a k)
 
 -- a word of k bytes is below 256 ^ k
 pub le-bound : (bytes : List ℕ) → ((i : ℕ) → getD bytes i 0 < 256) → le bytes < 256 ^ length bytes

@@ -119,6 +119,12 @@ pub fn unsigned_abs_i8(x: i8) -> u32
     if x < 0 { -(x as i32) as u32 } else { x as u32 }
 }
 
+pub fn unsigned_abs_i32(x: i32) -> u64
+    ensures { λ r. ⌜ r ≡ natAbs x ⌝ }
+{
+    if x < 0 { -(x as i64) as u64 } else { x as u64 }
+}
+
 // The magnitude of the signed number that a byte holds: Rust's `(b as i8).unsigned_abs()`.
 pub fn byte_magnitude(b: u8) -> u32
     ensures { λ r. ⌜ (r ≡ natAbs (signed8 b)) × (r ≤ 128) ⌝ }

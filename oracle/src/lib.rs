@@ -1,0 +1,29 @@
+//! The measure of every answer: the Rust sources, built as they are, and what the drivers share.
+
+/// The six Rust sources. build.rs says where they stand.
+pub mod radar {
+    include!(concat!(env!("OUT_DIR"), "/radar.rs"));
+}
+
+pub use rusty_esp_core::{Error, Micros};
+
+pub mod detectors;
+pub mod differ;
+pub mod layout;
+pub mod lines;
+pub mod random;
+pub mod room;
+pub mod samples;
+pub mod settings;
+pub mod streams;
+pub mod timer;
+
+/// The numeric word at `position` (from 1) of the command line, or else `default`.
+pub fn argument(position: usize, default: u64) -> u64 {
+    match std::env::args().nth(position) {
+        None => default,
+        Some(word) => word
+            .parse()
+            .unwrap_or_else(|_| panic!("`{word}` is not a number")),
+    }
+}

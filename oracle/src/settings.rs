@@ -1,0 +1,126 @@
+//! The room's settings and their ranges (document 01).
+
+use crate::detectors::{BLOCKS, WINDOWS};
+use crate::radar::csi::Config;
+use crate::radar::fall::FallConfig;
+use crate::radar::phase::PhaseConfig;
+use crate::radar::vitals::{Band, VitalsConfig};
+use crate::random::Random;
+use rusty_esp_core::Micros;
+
+#[derive(Debug, Clone, Copy, PartialEq, Eq)]
+pub struct Settings {
+    /// Frames of a window, for presence and phase.
+    pub w: u16,
+    /// Block means, for breathing and heart.
+    pub n: u16,
+    pub presence: Config,
+    pub phase: PhaseConfig,
+    pub breathing: VitalsConfig,
+    pub heart: VitalsConfig,
+    pub fall: FallConfig,
+}
+
+impl Settings {
+    /// Those of the program roomlines.
+    pub fn roomlines() -> Self {
+        Settings {
+            w: 50,
+            n: 128,
+            presence: Config::normalised_default(),
+            phase: PhaseConfig::default(),
+            breathing: VitalsConfig::breathing(50),
+            heart: VitalsConfig::heart(50),
+            fall: FallConfig::normalised_default(),
+        }
+    }
+
+    /// Settings in range, of the sizes the oracle is built for; the largest window seldom.
+    pub fn random(random: &mut Random) -> Self {
+        let small = WINDOWS.len() as u64 - u64::from(!random.one_in(50));
+        Settings {
+            w: WINDOWS[random.below(small) as usize] as u16,
+            n: random.pick(BLOCKS) as u16,
+            presence: Config {
+                on_permille: random.below(200) as u16,
+                off_permille: random.below(200) as u16,
+                hold: duration(random),
+            },
+            phase: PhaseConfig {
+                on_ppm: random.below(4000) as u32,
+                off_ppm: random.below(4000) as u32,
+                hold: duration(random),
+            },
+            breathing: rhythm(random),
+            heart: rhythm(random),
+            fall: FallConfig {
+                active_permille: random.below(100) as u16,
+                burst_permille: random.below(400) as u16,
+                still_permille: random.below(100) as u16,
+                min_active: duration(random),
+                quiet_grace: duration(random),
+                settle: duration(random),
+                still_for: duration(random),
+                refractory: duration(random),
+            },
+        }
+    }
+
+    /// Settings with one range left.
+    pub fn out_of_range(random: &mut Random) -> Self {
+        let mut settings = Settings::random(random);
+        let rhythms = [&mut settings.breathing, &mut settings.heart];
+        let rhythm = rhythms.into_iter().nth(random.below(2) as usize).unwrap();
+        match random.below(7) {
+            0 => settings.w = random.pick(&[0, 8193, 65_535]),
+            1 => settings.n = random.pick(&[0, 3, 513, 65_535]),
+            2 => rhythm.decim = random.pick(&[32_768, 65_535]),
+            3 => rhythm.rate_hz = random.pick(&[0, 1001, 65_536 + 10, u32::MAX]),
+            4 | 5 => rhythm.band.lo_mhz = 0,
+            _ => rhythm.band.hi_mhz = 0,
+        }
+        settings
+    }
+
+    /// Whether every named range is kept; if not, the refusal is 1.
+    pub fn in_range(&self) -> bool {
+        (1..=8192).contains(&self.w)
+            && (4..=512).contains(&self.n)
+            && [self.breathing, self.heart].iter().all(rhythm_in_range)
+    }
+}
+
+/// None, a few seconds, or any.
+fn duration(random: &mut Random) -> Micros {
+    Micros(match random.below(8) {
+        0 => 0,
+        1 => random.word(),
+        _ => random.any_size() % 10_000_000,
+    })
+}
+
+/// Most often one that comes to an estimate within some hundred frames.
+fn rhythm(random: &mut Random) -> VitalsConfig {
+    let rate_hz = random.pick(&[1, 2, 10, 25, 100, 999, 1000]);
+    // A band of lags from 2 to 150 or so.
+    let shortest = random.between(1, 60) as u32;
+    let longest = shortest + random.below(100) as u32;
+    VitalsConfig {
+        decim: random.pick(&[0, 1, 1, 1, 2, 2, 3, 5, 40, 32_767]),
+        rate_hz,
+        band: Band {
+            lo_mhz: (rate_hz * 1000 / longest).max(1),
+            hi_mhz: (rate_hz * 1000 / shortest).max(1),
+        },
+        update_every: random.pick(&[0, 1, 2, 10, 25, 65_535]),
+        accept_permille: random.below(1001) as u16,
+        highpass: random.pick(&[0, 0, 1, 2, 3, 24, 25, 511, 512, 65_535]),
+    }
+}
+
+fn rhythm_in_range(config: &VitalsConfig) -> bool {
+    config.decim <= 32_767
+        && (1..=1000).contains(&config.rate_hz)
+        && config.band.lo_mhz >= 1
+        && config.band.hi_mhz >= 1
+}

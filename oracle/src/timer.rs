@@ -1,0 +1,59 @@
+//! Our time as a ratio to the Rust's, the two timed in turn in one run.
+
+use std::fmt;
+use std::time::{Duration, Instant};
+
+/// Medians over the rounds, and the ratio's range.
+pub struct Ratio {
+    pub rust: Duration,
+    pub ours: Duration,
+    pub median: f64,
+    pub least: f64,
+    pub most: f64,
+}
+
+impl fmt::Display for Ratio {
+    fn fmt(&self, f: &mut fmt::Formatter<'_>) -> fmt::Result {
+        let Ratio {
+            rust,
+            ours,
+            median,
+            least,
+            most,
+        } = self;
+        write!(
+            f,
+            "ratio {median:.2} ({least:.2} to {most:.2}), rust {rust:.2?}, ours {ours:.2?}"
+        )
+    }
+}
+
+/// Times both `rounds` times (at least 5), after one untimed turn of each.
+pub fn ratio(rounds: usize, mut rust: impl FnMut(), mut ours: impl FnMut()) -> Ratio {
+    rust();
+    ours();
+    let pairs: Vec<(Duration, Duration)> = (0..rounds.max(5))
+        .map(|_| (time(&mut rust), time(&mut ours)))
+        .collect();
+    let ratios = sorted(pairs.iter().map(|(r, o)| o.as_secs_f64() / r.as_secs_f64()));
+    let middle = pairs.len() / 2;
+    Ratio {
+        rust: Duration::from_secs_f64(sorted(pairs.iter().map(|p| p.0.as_secs_f64()))[middle]),
+        ours: Duration::from_secs_f64(sorted(pairs.iter().map(|p| p.1.as_secs_f64()))[middle]),
+        median: ratios[middle],
+        least: ratios[0],
+        most: ratios[pairs.len() - 1],
+    }
+}
+
+fn time(work: &mut impl FnMut()) -> Duration {
+    let start = Instant::now();
+    work();
+    start.elapsed()
+}
+
+fn sorted(values: impl Iterator<Item = f64>) -> Vec<f64> {
+    let mut values: Vec<f64> = values.collect();
+    values.sort_by(f64::total_cmp);
+    values
+}

@@ -1,0 +1,162 @@
+//! The plain room: document 01's example, its counts and refusals, and the room as it is written
+//! there, which feeds new detectors all samples since the boundary for each answer.
+
+use oracle::layout::{ANSWER_LEN, SETTINGS_LEN, memory_len, settings_to_bytes};
+use oracle::lines::lines;
+use oracle::radar::csi_stream::MAX_ENCODED_LEN;
+use oracle::random::Random;
+use oracle::room::{Answer, CALIBRATE, PlainRoom, RESET, Return, WATCH};
+use oracle::settings::Settings;
+use oracle::streams::stream;
+
+const RECORD_LEN: usize = 1 + MAX_ENCODED_LEN;
+
+/// A record with a sample of this tag, its other fields 0.
+fn record(kind: u8, tag: u8) -> Vec<u8> {
+    let mut record = vec![0; RECORD_LEN];
+    (record[0], record[1], record[2], record[13]) = (kind, 1, tag, 128);
+    record
+}
+
+fn room() -> PlainRoom {
+    PlainRoom::new(Settings::roomlines())
+}
+
+#[test]
+fn the_example() {
+    let stream = [vec![RESET], record(WATCH, 4), vec![7]].concat();
+    let expected = "reset\nwatch warming 0 0 0 - - - 0\nrefused 9 at 143\n";
+    assert_eq!(lines(&stream), expected);
+}
+
+#[test]
+fn beginnings() {
+    let settings = Settings::roomlines();
+    let (bytes, memory) = (settings_to_bytes(&settings), memory_len(&settings));
+    let begin = |bytes: &[u8], memory| PlainRoom::begin(bytes, memory).err();
+    assert_eq!(begin(&bytes, memory), None);
+    assert_eq!(begin(&bytes, memory + 1), Some(2));
+    assert_eq!(begin(&bytes[1..], memory), Some(1));
+    assert_eq!(begin(&[0; SETTINGS_LEN], 0), Some(1));
+    for (w, in_range) in [(0, false), (1, true), (8192, true), (8193, false)] {
+        assert_eq!(Settings { w, ..settings }.in_range(), in_range);
+    }
+}
+
+#[test]
+fn counts() {
+    let records = [
+        record(WATCH, 1),
+        vec![RESET],
+        record(WATCH, 9),
+        vec![7, RESET],
+    ]
+    .concat();
+    for answers in 0..=4 {
+        for rest in [0, ANSWER_LEN - 1] {
+            let (given, end) = room().run(&records, answers * ANSWER_LEN + rest);
+            let used = [
+                0,
+                RECORD_LEN,
+                RECORD_LEN + 1,
+                2 * RECORD_LEN + 1,
+                2 * RECORD_LEN + 1,
+            ];
+            let (refusal, need) = if answers < 4 { (6, ANSWER_LEN) } else { (0, 0) };
+            let expected = Return {
+                refusal,
+                need,
+                answers,
+                used: used[answers],
+            };
+            assert_eq!((given.len(), end), (answers, expected));
+        }
+    }
+    let (answers, end) = room().run(&[], 0);
+    assert_eq!((answers, end.refusal, end.used), (vec![], 0, 0));
+}
+
+#[test]
+fn refusals_of_records() {
+    let refusal = |change: fn(&mut Vec<u8>)| {
+        let mut records = record(WATCH, 1);
+        change(&mut records);
+        room().run(&records, usize::MAX).0[0]
+    };
+    let refused = |number| Answer::Refused { number, at: 0 };
+    assert_eq!(refusal(|r| r[1] = 2), refused(3));
+    assert_eq!(refusal(|r| r[13] = 127), refused(3));
+    assert_eq!(refusal(|r| r[2] = 5), refused(4));
+    assert_eq!(refusal(|r| (r[1], r[2]) = (0, 0)), refused(3));
+    assert_eq!(refusal(|r| r[0] = 4), refused(9));
+    assert_eq!(refusal(|r| (r[0], r[1]) = (0, 0)), refused(9));
+    assert_eq!(refusal(|r| r.truncate(RECORD_LEN - 1)), refused(9));
+}
+
+#[test]
+fn calibration_is_full() {
+    let mut room = room();
+    let (answers, _) = room.run(&record(CALIBRATE, 2).repeat(65_536), usize::MAX);
+    assert_eq!(
+        answers[65_534],
+        Answer::Calibrate {
+            frames: 65_535,
+            mean: 0
+        }
+    );
+    let at = 65_535 * RECORD_LEN;
+    assert_eq!(answers[65_535], Answer::Refused { number: 8, at });
+    let records = [record(WATCH, 2), record(CALIBRATE, 3)].concat();
+    let (answers, _) = room.run(&records, usize::MAX);
+    assert_eq!(answers[1], Answer::Calibrate { frames: 1, mean: 0 });
+}
+
+/// The accepted records since the last boundary, and the answer to the last as document 01 has it.
+#[derive(Default)]
+struct WrittenRoom(Vec<u8>);
+
+impl WrittenRoom {
+    fn answer(&mut self, settings: Settings, record: &[u8]) -> Option<Answer> {
+        let mut new = PlainRoom::new(settings);
+        if matches!(new.run(record, usize::MAX).0[0], Answer::Refused { .. }) {
+            return None;
+        }
+        let another_tag = self.0.get(2).is_some_and(|tag| record.get(2) != Some(tag));
+        if record[0] == RESET || another_tag {
+            self.0.clear();
+        }
+        if record[0] != RESET {
+            self.0.extend(record);
+            return PlainRoom::new(settings).run(&self.0, usize::MAX).0.pop();
+        }
+        Some(Answer::Reset)
+    }
+}
+
+#[test]
+fn as_it_is_written() {
+    let mut random = Random::new(5);
+    for _ in 0..10 {
+        let settings = Settings {
+            w: 5,
+            n: 4,
+            ..Settings::random(&mut random)
+        };
+        let stream = stream(&mut random, 300);
+        let mut records: &[u8] = &stream;
+        let mut written = WrittenRoom::default();
+        for answer in PlainRoom::new(settings).run(&stream, usize::MAX).0 {
+            let length = if records[0] == RESET {
+                1
+            } else {
+                RECORD_LEN.min(records.len())
+            };
+            let (record, rest) = records.split_at(length);
+            match written.answer(settings, record) {
+                Some(expected) => assert_eq!(answer, expected),
+                None => assert!(matches!(answer, Answer::Refused { .. })),
+            }
+            records = rest;
+        }
+    }
+}
