@@ -145,13 +145,13 @@ pub fn abs_diff_u16(a: u16, b: u16) -> u64
     }
 }
 
-pub fn abs_diff_u32(a: u32, b: u32) -> u64
-    ensures { λ r. ⌜ (r ≡ apart a b) × (r ≤ 4294967295) ⌝ }
+pub fn abs_diff_u32(x: u32, y: u32) -> u64
+    ensures { λ r. ⌜ (r ≡ apart x y) × (r ≤ 4294967295) ⌝ }
 {
-    if a < b {
-        (b - a) as u64
+    if x < y {
+        (y - x) as u64
     } else {
-        (a - b) as u64
+        (x - y) as u64
     }
 }
 

@@ -1,0 +1,22 @@
+# make run      the lines of a sample stream
+# make test     the gate: proofs, must-fail edits, recorded cases, comparisons
+# make compare  our static libraries against the Rust, on many inputs
+# make bench    our time as a ratio to the Rust's
+.PHONY: run test compare bench
+
+subjects := $(notdir $(wildcard oracle/compare/*))
+
+run:
+	@echo 'roomlines is not there yet: the crates below it are (see README.md).'; exit 1
+
+test:
+	bash .ci/run
+
+compare: $(subjects:%=compare-%)
+
+compare-%:
+	rt staticlib $*_c
+	cd oracle && cargo run --quiet --offline --release -p compare_$*
+
+bench:
+	@echo 'the benchmark of the room unit is not there yet; make compare prints the ratios of its parts.'; exit 1
