@@ -2,9 +2,10 @@
 # make test     the gate: proofs, must-fail edits, recorded cases, comparisons
 # make compare  our static libraries against the Rust, on many inputs
 # make bench    our time as a ratio to the Rust's
-.PHONY: run test compare bench
+.PHONY: run test compare oracle bench
 
-subjects := $(notdir $(wildcard oracle/compare/*))
+# each crate X_c has a driver oracle/compare/X
+subjects := $(patsubst crates/%_c,%,$(wildcard crates/*_c))
 
 run:
 	@echo 'roomlines is not there yet: the crates below it are (see README.md).'; exit 1
@@ -12,7 +13,10 @@ run:
 test:
 	bash .ci/run
 
-compare: $(subjects:%=compare-%)
+compare: oracle $(subjects:%=compare-%)
+
+oracle:
+	cd oracle && cargo test --quiet --offline --release
 
 compare-%:
 	rt staticlib $*_c

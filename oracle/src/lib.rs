@@ -7,6 +7,7 @@ pub mod radar {
 
 pub use rusty_esp_core::{Error, Micros};
 
+pub mod calls;
 pub mod detectors;
 pub mod differ;
 pub mod layout;

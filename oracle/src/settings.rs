@@ -37,9 +37,14 @@ impl Settings {
 
     /// Settings in range, of the sizes the oracle is built for; the largest window seldom.
     pub fn random(random: &mut Random) -> Self {
-        let small = WINDOWS.len() as u64 - u64::from(!random.one_in(50));
+        let (largest, others) = WINDOWS.split_last().unwrap();
+        let w = if random.one_in(40) {
+            *largest
+        } else {
+            random.pick(others)
+        };
         Settings {
-            w: WINDOWS[random.below(small) as usize] as u16,
+            w: w as u16,
             n: random.pick(BLOCKS) as u16,
             presence: Config {
                 on_permille: random.below(200) as u16,

@@ -4,12 +4,16 @@
 use crate::radar::csi_stream::{MAX_ENCODED_LEN, MAX_IQ, Sample, TAG_C6_HT20_NATURAL};
 use crate::radar::csi_stream::{TAG_DENSE_64, TAG_HTLTF_20MHZ, TAG_LLTF_20MHZ};
 use crate::random::Random;
-use crate::room::{CALIBRATE, RESET, WATCH};
+use crate::room::{CALIBRATE, MAX_CALIBRATED, RESET, WATCH};
 use rusty_esp_core::Micros;
 
 const SECOND: u64 = 1_000_000;
 /// Microseconds between two frames.
 const SPACING: u64 = SECOND / 50;
+
+/// The angles of a turn.
+const TURN: u64 = 256;
+const QUARTER: u64 = TURN / 4;
 
 /// What goes on before the radio.
 #[derive(Clone, Copy)]
@@ -31,7 +35,7 @@ struct Link<'a> {
     random: &'a mut Random,
     tag: u8,
     clock: u64,
-    frames: u64,
+    sent: u64,
     rest: [i8; MAX_IQ],
     sway: [i8; MAX_IQ],
     records: Vec<u8>,
@@ -40,7 +44,7 @@ struct Link<'a> {
 /// A stream of at least `frames` samples.
 pub fn stream(random: &mut Random, frames: u64) -> Vec<u8> {
     let mut link = Link::new(random);
-    while link.frames < frames {
+    while link.sent < frames {
         match link.random.below(16) {
             0 => link.records.push(RESET),
             1 | 2 => link.swap(),
@@ -53,14 +57,51 @@ pub fn stream(random: &mut Random, frames: u64) -> Vec<u8> {
     link.records
 }
 
+/// The stream shipped with roomlines, which shows each kind of line.
+pub fn demonstration() -> Vec<u8> {
+    let random = &mut Random::new(1);
+    let mut link = Link::new(random);
+    link.tag = TAG_HTLTF_20MHZ;
+    link.records.push(RESET);
+    link.frames(CALIBRATE, Scene::Still, 10);
+    link.frames(WATCH, Scene::Rhythm(150), 700);
+    link.damage();
+    link.fall();
+    link.tag = TAG_C6_HT20_NATURAL;
+    link.frames(WATCH, Scene::Rhythm(40), 270);
+    link.records.push(0);
+    link.records
+}
+
+/// A stream that calibrates until no more frames are taken, then swaps boards.
+pub fn full() -> Vec<u8> {
+    let random = &mut Random::new(1);
+    let mut link = Link::new(random);
+    link.tag = TAG_HTLTF_20MHZ;
+    link.frames(CALIBRATE, Scene::Walk, MAX_CALIBRATED as usize + 2);
+    link.frames(WATCH, Scene::Walk, 1);
+    link.frames(CALIBRATE, Scene::Walk, 1);
+    link.tag = TAG_C6_HT20_NATURAL;
+    link.frames(CALIBRATE, Scene::Walk, 2);
+    link.records
+}
+
 impl<'a> Link<'a> {
     fn new(random: &'a mut Random) -> Self {
-        let rest = std::array::from_fn(|_| random.between(0, 100) as i8 - 50);
+        // Neighbouring entries differ by about the same angle; in some links, by any.
+        let step = random.between(0, 10);
+        let spread = random.pick(&[4, 4, 4, 256]);
+        let mut angle = 0;
+        let mut rest = [0; MAX_IQ];
+        for entry in rest.chunks_exact_mut(2) {
+            angle += step + random.below(spread);
+            (entry[0], entry[1]) = (wave(angle + QUARTER), wave(angle));
+        }
         let sway = std::array::from_fn(|_| random.between(0, 6) as i8 - 3);
         Link {
-            tag: random.between(1, 4) as u8,
+            tag: random.between(TAG_LLTF_20MHZ.into(), TAG_DENSE_64.into()) as u8,
             clock: random.below(100 * SECOND),
-            frames: 0,
+            sent: 0,
             records: Vec::new(),
             random,
             rest,
@@ -106,15 +147,11 @@ impl<'a> Link<'a> {
 
     /// Walking, a burst, then stillness for as long as the default settings ask.
     fn fall(&mut self) {
-        for (scene, frames) in [(Scene::Walk, 160), (Scene::Burst, 40), (Scene::Still, 70)] {
-            for _ in 0..frames {
-                self.frame(WATCH, scene);
-            }
-        }
+        self.frames(WATCH, Scene::Walk, 160);
+        self.frames(WATCH, Scene::Burst, 40);
+        self.frames(WATCH, Scene::Still, 70);
         self.clock = self.clock.wrapping_add(10 * SECOND);
-        for _ in 0..3 {
-            self.frame(WATCH, Scene::Still);
-        }
+        self.frames(WATCH, Scene::Still, 3);
     }
 
     fn jump(&mut self) {
@@ -127,9 +164,15 @@ impl<'a> Link<'a> {
         };
     }
 
+    fn frames(&mut self, kind: u8, scene: Scene, count: usize) {
+        for _ in 0..count {
+            self.frame(kind, scene);
+        }
+    }
+
     fn frame(&mut self, kind: u8, scene: Scene) {
         self.clock = self.clock.wrapping_add(SPACING);
-        self.frames += 1;
+        self.sent += 1;
         let iq: [i8; MAX_IQ] = std::array::from_fn(|k| self.reading(scene, k));
         let (rssi, channel) = (self.random.byte() as i8, self.random.byte());
         let sample = Sample::from_iq(Micros(self.clock), rssi, channel, self.tag, &iq);
@@ -145,10 +188,8 @@ impl<'a> Link<'a> {
         match scene {
             Scene::Still => self.rest[k] + i8::from(random.one_in(32)),
             Scene::Rhythm(period) => {
-                // A triangle from -period to period.
-                let (at, period) = ((self.frames % period) as i64, period as i64);
-                let height = (4 * at - 2 * period).abs() - period;
-                self.rest[k] + (i64::from(self.sway[k]) * height / period) as i8
+                let height = i32::from(wave(self.sent % period * TURN / period));
+                self.rest[k] + (i32::from(self.sway[k]) * height / 64) as i8
             }
             Scene::Walk => self.rest[k] + random.below(16) as i8 - 8,
             Scene::Burst => random.byte() as i8,
@@ -189,4 +230,10 @@ impl<'a> Link<'a> {
             _ => {}
         }
     }
+}
+
+/// A wave between -64 and 64 with straight sides.
+fn wave(angle: u64) -> i8 {
+    let from_half = (angle % TURN).abs_diff(TURN / 2);
+    (from_half as i32 - QUARTER as i32) as i8
 }

@@ -1,6 +1,7 @@
 //! Our time as a ratio to the Rust's, the two timed in turn in one run.
 
 use std::fmt;
+use std::hint::black_box;
 use std::time::{Duration, Instant};
 
 /// Medians over the rounds, and the ratio's range.
@@ -44,6 +45,27 @@ pub fn ratio(rounds: usize, mut rust: impl FnMut(), mut ours: impl FnMut()) -> R
         least: ratios[0],
         most: ratios[pairs.len() - 1],
     }
+}
+
+/// The same for two functions, each called on every input in a turn.
+pub fn ratio_over<I, A, B>(
+    inputs: &[I],
+    mut rust: impl FnMut(&I) -> A,
+    mut ours: impl FnMut(&I) -> B,
+) -> Ratio {
+    ratio(
+        21,
+        || {
+            for input in inputs {
+                black_box(rust(black_box(input)));
+            }
+        },
+        || {
+            for input in inputs {
+                black_box(ours(black_box(input)));
+            }
+        },
+    )
 }
 
 fn time(work: &mut impl FnMut()) -> Duration {

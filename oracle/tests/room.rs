@@ -1,6 +1,7 @@
 //! The plain room: document 01's example, its counts and refusals, and the room as it is written
 //! there, which feeds new detectors all samples since the boundary for each answer.
 
+use oracle::calls::{Host, Reply};
 use oracle::layout::{ANSWER_LEN, SETTINGS_LEN, memory_len, settings_to_bytes};
 use oracle::lines::lines;
 use oracle::radar::csi_stream::MAX_ENCODED_LEN;
@@ -111,52 +112,96 @@ fn calibration_is_full() {
     assert_eq!(answers[1], Answer::Calibrate { frames: 1, mean: 0 });
 }
 
-/// The accepted records since the last boundary, and the answer to the last as document 01 has it.
+/// The accepted records since the last boundary (document 01's L), each whole.
 #[derive(Default)]
 struct WrittenRoom(Vec<u8>);
 
 impl WrittenRoom {
-    fn answer(&mut self, settings: Settings, record: &[u8]) -> Option<Answer> {
-        let mut new = PlainRoom::new(settings);
-        if matches!(new.run(record, usize::MAX).0[0], Answer::Refused { .. }) {
-            return None;
-        }
-        let another_tag = self.0.get(2).is_some_and(|tag| record.get(2) != Some(tag));
-        if record[0] == RESET || another_tag {
+    fn accept(&mut self, record: &[u8]) {
+        if record[0] == RESET || self.0.get(2).is_some_and(|tag| *tag != record[2]) {
             self.0.clear();
         }
         if record[0] != RESET {
             self.0.extend(record);
-            return PlainRoom::new(settings).run(&self.0, usize::MAX).0.pop();
         }
-        Some(Answer::Reset)
+    }
+
+    /// What new detectors give for the last, fed all in order.
+    fn answer(&self, settings: Settings) -> Answer {
+        let (mut answers, _) = PlainRoom::new(settings).run(&self.0, usize::MAX);
+        answers.pop().unwrap_or(Answer::Reset)
     }
 }
 
 #[test]
 fn as_it_is_written() {
     let mut random = Random::new(5);
-    for _ in 0..10 {
+    for _ in 0..8 {
         let settings = Settings {
             w: 5,
             n: 4,
             ..Settings::random(&mut random)
         };
         let stream = stream(&mut random, 300);
-        let mut records: &[u8] = &stream;
+        let (answers, end) = PlainRoom::new(settings).run(&stream, usize::MAX);
+        let mut records = &stream[..end.used];
         let mut written = WrittenRoom::default();
-        for answer in PlainRoom::new(settings).run(&stream, usize::MAX).0 {
-            let length = if records[0] == RESET {
-                1
-            } else {
-                RECORD_LEN.min(records.len())
-            };
+        for answer in &answers {
+            let length = records
+                .first()
+                .map_or(0, |kind| if *kind == RESET { 1 } else { RECORD_LEN });
             let (record, rest) = records.split_at(length);
-            match written.answer(settings, record) {
-                Some(expected) => assert_eq!(answer, expected),
-                None => assert!(matches!(answer, Answer::Refused { .. })),
-            }
             records = rest;
+            if matches!(answer, Answer::Refused { .. }) {
+                continue;
+            }
+            written.accept(record);
+            if random.one_in(20) {
+                assert_eq!(*answer, written.answer(settings));
+            }
+        }
+        assert!(records.is_empty());
+    }
+}
+
+/// The Rust itself overflows nowhere in range (this profile checks).
+#[test]
+fn any_settings_in_range() {
+    let deep = std::thread::Builder::new().stack_size(1 << 24);
+    let runs = deep.spawn(|| {
+        let mut random = Random::new(6);
+        for _ in 0..20 {
+            let settings = Settings::random(&mut random);
+            assert!(settings.in_range());
+            assert!(!Settings::out_of_range(&mut random).in_range());
+            let stream = stream(&mut random, 300);
+            PlainRoom::new(settings).run(&stream, usize::MAX);
+        }
+    });
+    runs.unwrap().join().unwrap();
+}
+
+/// Made-up calls meet every reply there is.
+#[test]
+fn calls() {
+    let mut random = Random::new(7);
+    let mut begun = [0; 3];
+    let mut ended = [0; 10];
+    for _ in 0..5 {
+        let (mut host, first) = Host::new(&mut random);
+        assert_eq!(host.reply(&first), Reply::Begin(0));
+        for _ in 0..40 {
+            let call = host.call(&mut random);
+            match host.reply(&call) {
+                Reply::Begin(refusal) => begun[usize::from(refusal)] += 1,
+                Reply::Run(_, end) if end.refusal != 0 => ended[usize::from(end.refusal)] += 1,
+                Reply::Run(answers, _) => match answers.last() {
+                    Some(Answer::Refused { number, .. }) => ended[usize::from(*number)] += 1,
+                    _ => ended[0] += 1,
+                },
+            }
         }
     }
+    assert!(begun.iter().all(|count| *count > 0), "{begun:?}");
+    assert!([0, 6, 9].iter().all(|end| ended[*end] > 0), "{ended:?}");
 }

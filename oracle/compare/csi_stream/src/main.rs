@@ -3,8 +3,9 @@
 use std::process::ExitCode;
 
 use oracle::differ::Differ;
-use oracle::radar::csi_stream::{HEADER_LEN, MAX_IQ, Sample, VERSION};
+use oracle::radar::csi_stream::{HEADER_LEN, MAX_ENCODED_LEN, MAX_IQ, Sample, VERSION};
 use oracle::random::Random;
+use oracle::timer::ratio_over;
 use oracle::{Error, Micros, argument, samples};
 
 #[repr(C)]
@@ -105,25 +106,21 @@ fn decode_ours(record: &[u8]) -> (u64, Fields) {
     (refusal, f)
 }
 
-/// The refusal, the bytes written or needed, and the whole space after the call.
-type Encoded = (u64, u64, Vec<u8>);
-
-fn encode_rust(f: &Fields, iq: &[u8], mut space: Vec<u8>) -> Encoded {
-    let signed: Vec<i8> = iq.iter().map(|&b| b as i8).collect();
-    let (refusal, bytes) = match Sample::from_iq(Micros(f.at), f.rssi, f.channel, f.layout, &signed)
-    {
+/// The refusal, and the bytes written or needed.
+fn encode_rust(f: &Fields, iq: &[u8], space: &mut [u8]) -> (u64, u64) {
+    let iq: Vec<i8> = iq.iter().map(|&b| b as i8).collect();
+    let Ok(sample) = Sample::from_iq(Micros(f.at), f.rssi, f.channel, f.layout, &iq) else {
         // The Rust refuses such a sample before encoding; document 01 gives encoding the number.
-        Err(_) => (FORMAT, 0),
-        Ok(sample) => match sample.encode(&mut space) {
-            Ok(written) => (0, written),
-            Err(Error::BufferTooSmall { needed }) => (SPACE, needed),
-            Err(other) => unreachable!("{other:?}"),
-        },
+        return (FORMAT, 0);
     };
-    (refusal, bytes as u64, space)
+    match sample.encode(space) {
+        Ok(written) => (0, written as u64),
+        Err(Error::BufferTooSmall { needed }) => (SPACE, needed as u64),
+        Err(other) => unreachable!("{other:?}"),
+    }
 }
 
-fn encode_ours(f: &Fields, iq: &[u8], mut space: Vec<u8>) -> Encoded {
+fn encode_ours(f: &Fields, iq: &[u8], space: &mut [u8]) -> (u64, u64) {
     let (out, out_len) = (space.as_mut_ptr(), space.len());
     let Written { refusal, bytes } = unsafe {
         csi_encode(
@@ -137,16 +134,18 @@ fn encode_ours(f: &Fields, iq: &[u8], mut space: Vec<u8>) -> Encoded {
             out_len,
         )
     };
-    (refusal, bytes, space)
+    (refusal, bytes)
 }
 
 fn compare_decode(differ: &mut Differ, record: &[u8]) {
     differ.compare(&record, &decode_rust(record), &decode_ours(record));
 }
 
+/// Compares the whole space too, in which a refusal and the bytes past a sample leave what was.
 fn compare_encode(differ: &mut Differ, f: &Fields, iq: &[u8], space: &[u8]) {
-    let rust = encode_rust(f, iq, space.to_vec());
-    let ours = encode_ours(f, iq, space.to_vec());
+    let (mut rust, mut ours) = (space.to_vec(), space.to_vec());
+    let rust = (encode_rust(f, iq, &mut rust), rust);
+    let ours = (encode_ours(f, iq, &mut ours), ours);
     differ.compare(&(f, iq, space), &rust, &ours);
 }
 
@@ -214,10 +213,33 @@ fn one_random(differ: &mut Differ, random: &mut Random) {
     };
     compare_decode(differ, &record);
     if let (0, f) = decode_ours(&record) {
-        let space = vec![random.byte(); record.len()];
-        let back = encode_ours(&f, &record[HEADER_LEN..], space);
-        differ.compare(&record, &(0, record.len() as u64, record.clone()), &back);
+        let mut back = vec![random.byte(); record.len()];
+        encode_ours(&f, &record[HEADER_LEN..], &mut back);
+        differ.compare(&record, &record, &back);
     }
+}
+
+/// Prints the times of decoding and of encoding as ratios to the Rust's.
+fn measure(random: &mut Random) {
+    let record = |_| samples::legal(random, MAX_IQ);
+    let records: Vec<Vec<u8>> = (0..10_000).map(record).collect();
+    let decode = ratio_over(&records, |r| Sample::decode(r), |r| decode_ours(r));
+    println!("decode: {decode}");
+    let decoded = |r: &Vec<u8>| {
+        (
+            Sample::decode(r).unwrap(),
+            decode_rust(r).1,
+            r[HEADER_LEN..].to_vec(),
+        )
+    };
+    let samples: Vec<(Sample, Fields, Vec<u8>)> = records.iter().map(decoded).collect();
+    let (mut rust, mut ours) = ([0; MAX_ENCODED_LEN], [0; MAX_ENCODED_LEN]);
+    let encode = ratio_over(
+        &samples,
+        |(sample, _, _)| sample.encode(&mut rust),
+        |(_, fields, iq)| encode_ours(fields, iq, &mut ours),
+    );
+    println!("encode: {encode}");
 }
 
 fn main() -> ExitCode {
@@ -229,5 +251,6 @@ fn main() -> ExitCode {
     for _ in 0..argument(2, 1_000_000) {
         one_random(differ, random);
     }
+    measure(random);
     differ.finish()
 }

@@ -15,17 +15,17 @@ use super::Cases;
 const SPACE: usize = 150;
 const FILL: u8 = 0xa5;
 
-pub fn record(cases: &mut Cases) {
+pub fn cases() -> Cases {
     let random = &mut Random::new(1);
-    for record in bench().chain(single_bytes()) {
-        cases.add(&record, &answer(&record));
-    }
+    let mut cases = Cases::default();
+    let mut add = |record: Vec<u8>| cases.add(&record, &answer(&record));
+    bench().chain(single_bytes()).for_each(&mut add);
     for n in 0..=MAX_IQ {
         let record = samples::legal(random, n);
-        cases.add(&record, &answer(&record));
-        let record = samples::damaged(random, record);
-        cases.add(&record, &answer(&record));
+        add(record.clone());
+        add(samples::damaged(random, record));
     }
+    cases
 }
 
 /// The bench cases of document 01, and other headers refused for one reason each.

@@ -1,18 +1,36 @@
-//! Writes the recorded cases of a subject: `record SUBJECT [FOLDER OF THE CRATES]`.
-//! The program X_cases reads its file stdin and must print its file stdout, the Rust's answers.
+//! Writes the recorded inputs and answers of a subject: `record SUBJECT [FOLDER OF THE CRATES]`.
+//! The subject's program reads its file stdin and must print its file stdout, the Rust's answers.
 
 mod csi_stream;
 
 use std::path::PathBuf;
 use std::process::exit;
-use std::{env, fs};
+use std::{env, fs, io};
 
-/// Adds a subject's cases.
-type Record = fn(&mut Cases);
+use oracle::{lines, streams};
 
-const SUBJECTS: &[(&str, Record)] = &[("csi_stream", csi_stream::record)];
+/// What a program reads, and what it must print.
+struct Recorded {
+    stdin: Vec<u8>,
+    stdout: String,
+}
 
-/// The inputs, each as its length in two bytes (low byte first) and its bytes; an answer is a line.
+/// The program's crate and its inputs and answers, none for a subject that there is not.
+fn record(subject: &str) -> Option<(&'static str, Recorded)> {
+    Some(match subject {
+        "csi_stream" => ("csi_stream_cases", csi_stream::cases().into()),
+        "roomlines" => ("roomlines", roomlines()),
+        _ => return None,
+    })
+}
+
+fn roomlines() -> Recorded {
+    let stdin = streams::demonstration();
+    let stdout = lines::lines(&stdin);
+    Recorded { stdin, stdout }
+}
+
+/// Cases: an input is its length in two bytes (low byte first) and its bytes; an answer is a line.
 #[derive(Default)]
 struct Cases {
     inputs: Vec<u8>,
@@ -29,26 +47,30 @@ impl Cases {
     }
 }
 
-fn main() {
-    let name = env::args().nth(1).unwrap_or_default();
-    let Some((_, record)) = SUBJECTS.iter().find(|(subject, _)| *subject == name) else {
-        let subjects: Vec<&str> = SUBJECTS.iter().map(|(subject, _)| *subject).collect();
-        eprintln!("name one of {subjects:?}");
+impl From<Cases> for Recorded {
+    fn from(cases: Cases) -> Self {
+        Recorded {
+            stdin: cases.inputs,
+            stdout: cases.answers,
+        }
+    }
+}
+
+fn main() -> io::Result<()> {
+    let subject = env::args().nth(1).unwrap_or_default();
+    let Some((program, recorded)) = record(&subject) else {
+        eprintln!("there is no subject `{subject}`");
         exit(2);
     };
-    let mut cases = Cases::default();
-    record(&mut cases);
-    let crates = env::args().nth(2).map_or_else(
+    let crates = env::args_os().nth(2).map_or_else(
         || PathBuf::from(env!("CARGO_MANIFEST_DIR")).join("../crates"),
         PathBuf::from,
     );
-    let folder = crates.join(format!("{name}_cases"));
-    fs::create_dir_all(&folder).unwrap();
-    fs::write(folder.join("stdin"), &cases.inputs).unwrap();
-    fs::write(folder.join("stdout"), &cases.answers).unwrap();
-    println!(
-        "{name}: {} cases, {} bytes",
-        cases.answers.lines().count(),
-        cases.inputs.len()
-    );
+    let folder = crates.join(program);
+    fs::create_dir_all(&folder)?;
+    fs::write(folder.join("stdin"), &recorded.stdin)?;
+    fs::write(folder.join("stdout"), &recorded.stdout)?;
+    let lines = recorded.stdout.lines().count();
+    println!("{program}: {} bytes, {lines} lines", recorded.stdin.len());
+    Ok(())
 }
