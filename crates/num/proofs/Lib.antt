@@ -11,6 +11,7 @@ pub mod Row
 pub mod Squares
 pub mod Sum
 pub mod Table
+pub mod Tests
 pub mod Words
 pub mod Wrap
 mod Estimate

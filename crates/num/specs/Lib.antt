@@ -2,3 +2,4 @@ pub mod Root
 pub mod Sum
 pub mod Wrap
 pub mod Words
+pub mod Tests

@@ -1,0 +1,3 @@
+pub mod Joined
+pub mod Pushes
+pub mod Calls

@@ -1,0 +1,5 @@
+pub mod Verdict
+pub mod Decision
+pub mod State
+pub mod Detector
+pub mod Calls

@@ -1,0 +1,10 @@
+pub mod Words
+pub mod Totals
+pub mod Rows
+pub mod Ring
+pub mod View
+pub mod Round
+pub mod Write
+pub mod Check
+pub mod Mean
+pub mod Fixed

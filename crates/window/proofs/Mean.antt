@@ -1,0 +1,72 @@
+-- The mean over the columns: of a full window it is that of the carried sums, and it does not depend on the order of the rows. Assumes nothing.
+use mathlib.Core.Path.{_≡_, refl, sym, ap, _∙_}
+use mathlib.Core.List.{List, [], _∷_, List·Permᴰ, List·Permᴰ·nil, List·Permᴰ·cons, List·Permᴰ·swap, List·Permᴰ·trans}
+use Prim.Native.Nat.{ℕ, zero, suc, _+_, _*_, _/_, _<_, _≤_, zero-le}
+use native.Mathlib.Nat.{div-le-of-le-mul, suc-mul}
+use native.Mathlib.Numerals.{add-one}
+use native.Mathlib.Omega.{arith}
+use lib.ListN.{length, getD}
+use Rattle.window.specs.Words.{words}
+use Rattle.window.specs.Window.{windowOf, ringRows, width}
+use Rattle.window.specs.Sums.{Summing, Lawful, Ring, first, second, sumTo, carriedMean, windowMean}
+use Rattle.window.proofs.Rows.{length-cut}
+use Rattle.window.proofs.Ring.{length-ring-row}
+use Rattle.window.proofs.View.{Long, column-perm, window-total, window-width, length-window}
+
+pub sumTo-more : (n : ℕ) (g : ℕ → ℕ) → sumTo (n + 1) g ≡ sumTo n g + g n
+unfolding sumTo
+sumTo-more n g = ap (λ (k : ℕ). sumTo k g) (add-one n)
+
+-- a sum goes by its terms
+pub sumTo-same : (n : ℕ) (g h : ℕ → ℕ) → ((k : ℕ) → k < n → g k ≡ h k) → sumTo n g ≡ sumTo n h
+unfolding sumTo
+sumTo-same zero g h e = refl
+sumTo-same (suc n) g h e = rw (sumTo-same n g h (λ k l. e k (omega arith)), e n (omega arith))
+
+-- a mean is at most its largest term
+pub sumTo-le : (n m : ℕ) (g : ℕ → ℕ) → ((k : ℕ) → k < n → g k ≤ m) → sumTo n g ≤ n * m
+unfolding sumTo
+sumTo-le zero m g h = zero-le
+sumTo-le (suc n) m g h = omega (arith, suc-mul n m, sumTo-le n m g (λ k l. h k (omega arith)), h n (omega arith))
+
+pub length-perm : {window other : List (List ℕ)} → List·Permᴰ window other → length window ≡ length other
+length-perm List·Permᴰ·nil = refl
+length-perm (List·Permᴰ·cons e p) = ap suc (length-perm p)
+length-perm (List·Permᴰ·swap d e) = refl
+length-perm (List·Permᴰ·trans p q) = length-perm p ∙ length-perm q
+
+-- every row of a ring has c entries
+pub ring-long : (w c : ℕ) (bytes : List ℕ) → length bytes ≡ 2 * (w * c) → Long c (ringRows w c bytes)
+ring-long w c bytes whole i h = length-ring-row w c bytes whole i (rw (length-cut w c (words bytes)) at h)
+
+module _ (S : Summing) (lawful : Lawful S) (term : ℕ → S .Number → S .Number → ℕ) where
+  -- A FULL WINDOW HAS NO ORDER. Repeated rows count as often as they occur; the rows of a window are equally wide
+  pub mean-no-order : {window other : List (List ℕ)} → List·Permᴰ window other → width window ≡ width other → windowMean S term window ≡ windowMean S term other
+  unfolding windowMean
+  mean-no-order {window} {other} p wide =
+      rw (length-perm p, wide)
+      (ap (λ (t : ℕ). t / width other)
+      (sumTo-same (width other) (λ sc. term (length other) (first S window sc) (second S window sc)) (λ sc. term (length other) (first S other sc) (second S other sc))
+      (λ k h. rw (column-perm (S .add) (S .none) (lawful .exchange) (S .f) p k, column-perm (S .add) (S .none) (lawful .exchange) (S .g) p k))))
+
+  -- the carried sums give the mean of a full window, from whichever slot it starts
+  pub mean-carried : (w c : ℕ) (bytes : List ℕ) (fs gs : List (S .Number)) → Ring S w c bytes fs gs → (next n : ℕ) → n ≤ c → 0 < w
+      → carriedMean S term w n fs gs ≡ windowMean S term (windowOf next w n (ringRows w c bytes))
+  unfolding carriedMean windowMean
+  mean-carried w c bytes fs gs ring next n narrow some =
+      let rows : List (List ℕ) = ringRows w c bytes in
+      let len : length rows ≡ w = length-cut w c (words bytes) in
+      rw (length-window next w n rows (omega arith), window-width next w n c rows (ring-long w c bytes (ring .whole)) narrow some (omega arith))
+      (ap (λ (t : ℕ). t / n)
+      (sumTo-same n (λ sc. term w (getD fs sc (S .none)) (getD gs sc (S .none))) (λ sc. term w (first S (windowOf next w n rows) sc) (second S (windowOf next w n rows) sc))
+      (λ k h. rw (
+        ring .sums .firsts k (omega arith),
+        ring .sums .seconds k (omega arith),
+        window-total (S .add) (S .none) (lawful .exchange) (S .f) next n rows w len k h,
+        window-total (S .add) (S .none) (lawful .exchange) (S .g) next n rows w len k h,
+      ))))
+
+  -- its size
+  pub mean-le : (m w n : ℕ) (fs gs : List (S .Number)) → ((sc : ℕ) → sc < n → term w (getD fs sc (S .none)) (getD gs sc (S .none)) ≤ m) → carriedMean S term w n fs gs ≤ m
+  unfolding carriedMean
+  mean-le m w n fs gs h = div-le-of-le-mul n (sumTo-le n m (λ sc. term w (getD fs sc (S .none)) (getD gs sc (S .none))) h)
