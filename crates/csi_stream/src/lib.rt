@@ -1,4 +1,5 @@
 // One channel sample on the wire, version 1 (csi_stream.rs): 13 header bytes, then the I/Q bytes.
+mod features;
 mod wire;
 
 ghost use mathlib.Core.Path.{_≡_};

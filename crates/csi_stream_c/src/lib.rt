@@ -1,4 +1,6 @@
 // The wire form for Rust and C: numbers, references to numbers, slices as pointer and length.
+pub mod features;
+
 ghost use mathlib.Core.Path.{_≡_};
 ghost use lib.ListN.{length};
 ghost use Rattle.csi_stream.specs.Codec.{decodeOf, decodedNumber, decodedSample, decodedLen, encodeOf, encodeInto, encodedNumber, encodedValue, sampleFrom};

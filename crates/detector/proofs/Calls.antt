@@ -44,6 +44,14 @@ valid-told K w c s bytes fs gs =
     (λ v. (v .placed, v .ring))
     (tells-both (isPlaced w c (K .top) s) (isRing (K .sums) w c bytes fs gs) (placed-told w c (K .top) s) (ring-told (K .sums) w c bytes fs gs))
 
+-- the range is tested first, then the sums
+module _ (K : Kind) (w c : ℕ) (s : State) (bytes : List ℕ) (fs gs : List (K .sums .Number)) where
+  pub valid-in-range : isPlaced w c (K .top) s ≡ true → (r : Bool) → r ≡ isRing (K .sums) w c bytes fs gs → r ≡ isValid K w c s bytes fs gs
+  valid-in-range e r er = er ∙ ap (λ (b : Bool). b && isRing (K .sums) w c bytes fs gs) (sym e)
+
+  pub valid-out-of-range : isPlaced w c (K .top) s ≡ false → false ≡ isValid K w c s bytes fs gs
+  valid-out-of-range e = ap (λ (b : Bool). b && isRing (K .sums) w c bytes fs gs) (sym e)
+
 -- the size of a window that is one
 pub record Sized (w : ℕ) : Type 0 where
   pub some : 1 ≤ w

@@ -65,6 +65,7 @@ pub struct Limits {
 
 // The state beside the ring and its sums: the columns in use, the rows since the last restart, the slot to write
 // next, the last wander, the verdict, and the time of the last motion.
+#[repr(C)]
 pub struct State {
     pub count: usize,
     pub filled: usize,

@@ -4,8 +4,8 @@ use Prim.Native.Nat.{ℕ, _-_, _+_, _≤_}
 use mathlib.Core.Path.{_≡_, refl, sym, ap, _∙_}
 use mathlib.Core.List.{List, _++_, append-nil, append-assoc}
 use native.Mathlib.Omega.{arith}
-use lib.ListN.{length, take, drop, length-drop, drop-of-length-le}
-use lib.Seq.{take-all, take-at, drop-at, drop-drop}
+use lib.ListN.{length, take, drop, length-append, length-drop, drop-of-length-le, take-append-drop}
+use lib.Seq.{length-take-le, take-all, take-at, drop-at, drop-drop}
 use borrow.Rule.Slice.PartMut.{putMid, postOf}
 
 -- the part that is lent is the rest of the list
@@ -19,10 +19,10 @@ part-back a s p =
     ap (λ (l : List ℕ). p ++ l) (drop-of-length-le (drop a s) {i = length s - a} (omega (arith, length-drop a s))) ∙ append-nil p
     )
 
--- t is put at the front of the part from a on: the whole is s with t there
-pub front-put : (a : ℕ) (t s : List ℕ)
-    → take a s ++ ((t ++ drop (length t) (take (length s - a) (drop a s))) ++ drop (length s - a) (drop a s)) ≡ take a s ++ (t ++ drop (a + length t) s)
-front-put a t s = part-back a s (t ++ drop (length t) (take (length s - a) (drop a s))) ∙ rw (part-lent a s, drop-drop)
+-- t, which the array b holds, is put at the front of the part from a on, which comes back as p: the whole is s with t there
+pub front-put : (a : ℕ) (b t s p : List ℕ) → b ≡ t → p ≡ b ++ drop (length b) (take (length s - a) (drop a s))
+    → take a s ++ (p ++ drop (length s - a) (drop a s)) ≡ take a s ++ (t ++ drop (a + length t) s)
+front-put a b t s p eb ep = part-back a s p ∙ rw (ep, part-lent a s, drop-drop, eb)
 
 -- h is put at the front of s, then t at the front of what follows it: s now begins with h and t, and is itself behind them
 pub front-twice : (n : ℕ) (h t s o p : List ℕ) → length h ≡ n → o ≡ h ++ drop n s → p ≡ t ++ drop (length t) (take (length o - n) (drop n o))
@@ -30,6 +30,26 @@ pub front-twice : (n : ℕ) (h t s o p : List ℕ) → length h ≡ n → o ≡ 
 front-twice n h t s o p e eo ep =
     part-back n o p
     ∙ rw (ep, part-lent, eo, take-at h (drop n s) n e, drop-at h (drop n s) n e, drop-drop, append-assoc)
+
+-- A memory that is written from the front: m was m₀, and its first a bytes are p
+pub record Front (a : ℕ) (p m₀ m : List ℕ) : Type 0 where
+  pub long : length p ≡ a
+  pub whole : m ≡ p ++ drop a m₀
+
+pub front-start : (a : ℕ) (m₀ : List ℕ) → a ≤ length m₀ → Front a (take a m₀) m₀ m₀
+front-start a m₀ h = record { long = length-take-le a m₀ h; whole = sym (take-append-drop a m₀) }
+
+-- t is put behind them, over n bytes
+pub front-whole : {a : ℕ} {p m₀ m : List ℕ} (n : ℕ) (t m′ : List ℕ) → Front a p m₀ m → m′ ≡ take a m ++ (t ++ drop (a + n) m) → m′ ≡ (p ++ t) ++ drop (a + n) m₀
+front-whole {a} {p} {m₀} {m} n t m′ f e =
+    let front : take a m ≡ p = rw (f .whole) (take-at p (drop a m₀) a (f .long)) in
+    let back : drop (a + n) m ≡ drop (a + n) m₀ =
+    sym (drop-drop n a m) ∙ rw (f .whole, drop-at p (drop a m₀) a (f .long)) (drop-drop n a m₀)
+    in
+    e ∙ rw (front, back) (sym (append-assoc p t (drop (a + n) m₀)))
+
+pub front-next : {a : ℕ} {p m₀ m : List ℕ} (n : ℕ) (t m′ : List ℕ) → Front a p m₀ m → length t ≡ n → m′ ≡ take a m ++ (t ++ drop (a + n) m) → Front (a + n) (p ++ t) m₀ m′
+front-next {a} {p} n t m′ f l e = record { long = length-append p t ∙ rw (f .long, l); whole = front-whole n t m′ f e }
 
 -- a memory cut in two at a: the front lent and come back as p, then the rest lent and come back as q
 module _ (a : ℕ) (m p : List ℕ) (long : length p ≡ a) where

@@ -85,9 +85,7 @@ le-pair s i h = rw (drop-cons s i 0 (omega arith), drop-cons s (suc i) 0 (omega 
 -- the bytes of a word, put at the front of the part from i on
 pub put-le : (k i n : ℕ) (b s p : List ℕ) → b ≡ leBytes k n → p ≡ b ++ drop (length b) (take (length s - i) (drop i s))
     → take i s ++ (p ++ drop (length s - i) (drop i s)) ≡ putLe k s i n
-put-le k i n b s p eb ep =
-    let long : length b ≡ k = ap length eb ∙ length-leBytes k n in
-    rw (ep, front-put i b s, long, eb)
+put-le k i n b s p eb ep = front-put i b (leBytes k n) s p eb ep ∙ rw (length-leBytes k n)
 
 -- what is written is read back
 pub read-put : (k i n : ℕ) (bytes : List ℕ) → i ≤ length bytes → n < 256 ^ k → leAt (putLe k bytes i n) i k ≡ n

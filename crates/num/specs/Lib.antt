@@ -1,5 +1,6 @@
 pub mod Root
 pub mod Sum
+pub mod Tests
 pub mod Wrap
 pub mod Words
-pub mod Tests
+pub mod Rules

@@ -20,3 +20,13 @@ leBytes (suc k) n = n % 256 ∷ leBytes k (n / 256)
 -- the bytes with the k low bytes of n from i on
 abbrev pub putLe : ℕ → List ℕ → ℕ → ℕ → List ℕ
 putLe k bytes i n = take i bytes ++ (leBytes k n ++ drop (i + k) bytes)
+
+-- the first n words of k bytes each
+unfoldable pub wordsIn : (k n : ℕ) → List ℕ → List ℕ
+wordsIn k zero bytes = []
+wordsIn k (suc n) bytes = le (take k bytes) ∷ wordsIn k n (drop k bytes)
+
+-- the bytes of words of k bytes each
+unfoldable pub leAll : ℕ → List ℕ → List ℕ
+leAll k [] = []
+leAll k (x ∷ xs) = leBytes k x ++ leAll k xs

@@ -5,7 +5,7 @@ ghost use lib.IntN.{natAbs, _-ℤ_};
 ghost use lib.ListN.{take};
 ghost use Rattle.num.specs.Root.{root, Near};
 ghost use Rattle.num.specs.Sum.{apart, dotZ, maxTerms};
-ghost use Rattle.num.specs.Wrap.{modZ, wrap16, signed8};
+ghost use Rattle.num.specs.Wrap.{modZ, wrap16, signed8, signed32};
 
 pub mod steps;
 
@@ -109,6 +109,28 @@ pub fn i16_to_u16(x: i16) -> u16
         (x as i32 + 65536) as u16
     } else {
         x as u16
+    }
+}
+
+// The bits of x as an unsigned number: Rust's `x as u32`.
+pub fn i32_to_u32(x: i32) -> u32
+    ensures { λ r. ⌜ r ≡ modZ x 4294967296 ⌝ }
+{
+    if x < 0 {
+        (x as i64 + 4294967296) as u32
+    } else {
+        x as u32
+    }
+}
+
+// The signed number that bits stand for: Rust's `b as i32`.
+pub fn u32_to_i32(b: u32) -> i32
+    ensures { λ r. ⌜ r ≡ signed32 b ⌝ }
+{
+    if b < 2147483648 {
+        b as i32
+    } else {
+        (b as i64 - 4294967296) as i32
     }
 }
 

@@ -1,7 +1,7 @@
 -- The check of carried sums, on plain values: the sums of all columns in one pass over the rows, row by row (`Adding` within a row,
 -- `Added` from row to row), and the comparison of these with the sums carried (`Alike`). Assumes nothing.
 use mathlib.Core.Path.{_≡_, refl, sym, ap, _∙_}
-use mathlib.Core.Bool.{Bool, _&&_, decide}
+use mathlib.Core.Bool.{Bool, true, false, _&&_, decide}
 use mathlib.Core.List.{List, [], _∷_}
 use Prim.Native.Nat.{ℕ, zero, suc, _+_, _*_, _<_, _≤_}
 use native.Mathlib.Omega.{arith}
@@ -10,7 +10,7 @@ use lib.Dec.{leb, eqb}
 use lib.ListN.{length, take, getD, set, replicate, length-set, getD-replicate}
 use lib.Seq.{take-all, getD-set-same, getD-set-other}
 use Rattle.num.specs.Tests.{Tells, allBelow}
-use Rattle.num.proofs.Tests.{tells-iff, tells-both, tells-le, tells-eq, tells-decide, tells-below}
+use Rattle.num.proofs.Tests.{tells-no, tells-same, tells-iff, tells-both, tells-le, tells-eq, tells-decide, tells-below}
 use Rattle.window.specs.Words.{words}
 use Rattle.window.specs.Window.{maxRows, column, ringRows}
 use Rattle.window.specs.Sums.{totalBy, CarriedBy, Summing, Lawful, Carried, Ring, first, second, sumsAt, isCarried, isRing}
@@ -120,6 +120,13 @@ module _ (S : Summing) (w c : ℕ) (bytes : List ℕ) where
       (λ ring. (ring .small, (ring .whole, ring .sums)))
       (tells-both (leb w maxRows) (eqb (length bytes) (2 * (w * c)) && carried) (tells-le w maxRows)
       (tells-both (eqb (length bytes) (2 * (w * c))) carried (tells-eq (length bytes) (2 * (w * c))) (sums-told fs gs)))
+
+  -- the two answers of the test
+  pub ring-yes : (fs gs : List (S .Number)) → Ring S w c bytes fs gs → true ≡ isRing S w c bytes fs gs
+  ring-yes fs gs ring = sym (ring-told fs gs .1 ring)
+
+  pub ring-no : (fs gs : List (S .Number)) → (Ring S w c bytes fs gs → ⊥) → false ≡ isRing S w c bytes fs gs
+  ring-no fs gs no-ring = tells-same false (isRing S w c bytes fs gs) (tells-no no-ring) (ring-told fs gs)
 
 -- Two pairs of sums are compared: those of the columns below sc are alike
 pub record Alike {A : Type 0} (none : A) (c : ℕ) (fs gs fs′ gs′ : List A) (sc : ℕ) : Type 0 where

@@ -1,5 +1,7 @@
 //! Decoding and encoding against the Rust: `compare_csi_stream [seed] [random inputs]`.
 
+mod features;
+
 use std::process::ExitCode;
 
 use oracle::differ::Differ;
@@ -251,6 +253,7 @@ fn main() -> ExitCode {
     for _ in 0..argument(2, 1_000_000) {
         one_random(differ, random);
     }
+    features::compare(differ, random, argument(2, 1_000_000) / 4);
     measure(random);
     differ.finish()
 }

@@ -1,7 +1,11 @@
 //! Writes the recorded inputs and answers of a subject: `record SUBJECT [FOLDER OF THE CRATES]`.
 //! The subject's program reads its file stdin and must print its file stdout, the Rust's answers.
 
+mod csi;
 mod csi_stream;
+mod fall;
+mod fingerprint;
+mod phase;
 
 use std::path::PathBuf;
 use std::process::exit;
@@ -18,7 +22,11 @@ struct Recorded {
 /// The program's crate and its inputs and answers, none for a subject that there is not.
 fn record(subject: &str) -> Option<(&'static str, Recorded)> {
     Some(match subject {
+        "csi" => ("csi_cases", csi::cases().into()),
         "csi_stream" => ("csi_stream_cases", csi_stream::cases().into()),
+        "fall" => ("fall_cases", fall::cases().into()),
+        "fingerprint" => ("fingerprint_cases", fingerprint::cases().into()),
+        "phase" => ("phase_cases", phase::cases().into()),
         "roomlines" => ("roomlines", roomlines()),
         _ => return None,
     })

@@ -1,0 +1,4 @@
+pub mod Angle
+pub mod Line
+pub mod Phases
+pub mod Tables
