@@ -2,6 +2,7 @@ pub mod Abs
 pub mod Arrays
 pub mod Bits
 pub mod Byte
+pub mod Cond
 pub mod Diff
 pub mod Fill
 pub mod Logic
@@ -10,7 +11,6 @@ pub mod Parts
 pub mod Placed
 pub mod Ratio
 pub mod Read
-pub mod Reciprocal
 pub mod Root
 pub mod Row
 pub mod Rules

@@ -2,7 +2,7 @@
 -- part wherever a * t is below s. Assumes nothing.
 use mathlib.Core.Path.{_≡_}
 use Prim.Native.Nat.{ℕ, suc, _+_, _*_, _/_, _≤_, _<_}
-use native.Mathlib.Nat.{mul-le-mul-left, mul-le-mul-right, lt-of-mul-lt-mul-right, le-of-mul-le-mul-right, div-mul-le-self, lt-div-mul-add, div-eq-of-lt-le}
+use native.Mathlib.Nat.{one-mul, mul-one, mul-le-mul-left, mul-le-mul-right, lt-of-mul-lt-mul-right, le-of-mul-le-mul-right, div-mul-le-self, lt-div-mul-add, div-eq-of-lt-le}
 use native.Mathlib.Omega.{arith}
 
 module _ (a c t s : ℕ) (some : 0 < t) where
@@ -31,3 +31,25 @@ module _ (a c t s : ℕ) (some : 0 < t) where
   ratio-le h =
       let less : a * (c * s / t) ≤ t * (c * s / t) = mul-le-mul-right (c * s / t) h in
       omega (arith, div-mul-le-self (c * s) t, less)
+
+-- the same for a division: a product with 1 / d in P-ths
+pub by-product : (P d x : ℕ) → 0 < d → x * d < P → x * (P / d + 1) / P ≡ x / d
+by-product P d x some h = rw (one-mul P, mul-one x) at (by-ratio x 1 d P some h)
+
+-- of any x whose quotient is at most q, the product is below (q + 1) * P
+module _ (P w q x : ℕ) (some : 1 ≤ w) (small : (q + 1) * w * w < P) (few : x / w ≤ q) where
+  below : x * w < P
+  below =
+      let a : x < x / w * w + w = lt-div-mul-add {a = x} {b = w} some in
+      let b : x / w * w ≤ q * w = mul-le-mul-right w few in
+      let c : x * w ≤ (q + 1) * w * w = mul-le-mul-right w (omega arith) in
+      omega arith
+
+  pub recip-div : x * (P / w + 1) / P ≡ x / w
+  recip-div = by-product P w x some below
+
+  pub recip-below : x * (P / w + 1) < (q + 1) * P
+  recip-below =
+      let a = lt-div-mul-add {a = x * (P / w + 1)} {b = P} (omega (arith, below)) in
+      let b : x * (P / w + 1) / P * P ≤ q * P = mul-le-mul-right P (omega (arith, recip-div)) in
+      omega arith

@@ -1,0 +1,15 @@
+pub mod Cutting
+pub mod Walking
+pub mod Reached
+pub mod Rooms
+pub mod Executions
+pub mod Boundaries
+pub mod Demand3
+pub mod Answering
+pub mod Sampling
+pub mod Going
+pub mod Calling
+pub mod Heads
+pub mod Filling
+pub mod Refusals
+pub mod Example

@@ -1,0 +1,11 @@
+pub mod Records
+pub mod Answers
+pub mod Sensing
+pub mod Walk
+pub mod Unit
+pub mod Room
+pub mod Calls
+pub mod Promises
+pub mod Steps
+pub mod Places
+pub mod Demand3
