@@ -1,3 +1,4 @@
 pub mod Joined
 pub mod Pushes
 pub mod Calls
+pub mod Reset

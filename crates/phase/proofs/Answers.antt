@@ -1,10 +1,9 @@
 -- What the tests of the code say of the answers that `specs/Phases.antt` defines. Assumes nothing.
-use mathlib.Core.Path.{_≡_, refl, sym, ap, _∙_}
-use mathlib.Core.Bool.{true, false}
+use mathlib.Core.Path.{_≡_, sym, ap, _∙_}
 use mathlib.Core.List.{List, _++_, map}
 use Prim.Native.Nat.{ℕ, _-_, _≤_, _<_}
 use native.Mathlib.Omega.{arith}
-use borrow.Author.Tests.{le-leb, lt-leb, eq-eqb, ne-eqb}
+use borrow.Author.Tests.{le-leb, lt-leb, ne-eqb}
 use lib.IntN.{ℤ, pos}
 use lib.ListN.{length, take, replicate, length-map}
 use lib.Seq.{take-at, length-take-le}
@@ -12,7 +11,7 @@ use Rattle.csi.specs.Layout.{maxSubcarriers, layoutOf, entriesOf, frameRefusal}
 use Rattle.csi.specs.declared.Layout.{Layout}
 use Rattle.phase.specs.Angle.{entryAngle}
 use Rattle.phase.specs.Line.{phasesOf}
-use Rattle.phase.specs.Phases.{sanitised, framePhases, refused, accepted, answered, phasesAnswer, anglesRefusal, used, anglesAnswer}
+use Rattle.phase.specs.Phases.{sanitised, framePhases, refused, accepted, phasesAnswer, anglesRefusal, used, anglesAnswer}
 use Rattle.phase.specs.declared.Angles.{Angles}
 use Rattle.phase.specs.declared.Phases.{Phases}
 

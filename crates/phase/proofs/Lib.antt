@@ -1,7 +1,10 @@
 pub mod Answers
+pub mod Cases
+pub mod Fits
 pub mod Octants
 pub mod Points
 pub mod Ranges
 pub mod Rules
+pub mod Shape
 pub mod Sizes
 pub mod Walks

@@ -1,5 +1,5 @@
 -- What the code's steps say of the definitions in `specs/Angle.antt`. Assumes nothing.
-use mathlib.Core.Path.{_≡_, refl, sym, ap, _∙_}
+use mathlib.Core.Path.{_≡_, ap, _∙_}
 use mathlib.Core.Bool.{true, false}
 use Prim.Native.Nat.{ℕ, _-_, _*_, _/_, _≤_, _<_, min, max}
 use native.Mathlib.Nat.{div-le-of-le-mul}

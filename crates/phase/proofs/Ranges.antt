@@ -4,7 +4,7 @@ use mathlib.Core.List.{List, _++_, map}
 use Prim.Native.Nat.{ℕ, _+_, _-_}
 use native.Mathlib.Omega.{arith}
 use lib.IntN.{ℤ}
-use lib.ListN.{length, take, drop, length-map}
+use lib.ListN.{take, drop, length-map}
 use Rattle.csi.specs.Layout.{upFrom, entriesOf}
 use Rattle.csi.specs.declared.Layout.{Layout}
 use Rattle.csi.proofs.Entries.{length-upFrom}

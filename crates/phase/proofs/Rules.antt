@@ -4,12 +4,12 @@ use Prim.Native.Nat.{ℕ, _≤_, _<_}
 use lib.ListN.{getD}
 use Rattle.num.specs.Rules.{Ascends}
 use Rattle.num.proofs.Rules.{ascends-by, ascends-le}
-use Rattle.phase.specs.Tables.{atanOctant, entries}
+use Rattle.phase.specs.Tables.{atanOctant, entries, eighthTurn}
 
 -- from 0 to 8,192
-pub atan-ascends : Ascends entries 8192 atanOctant
+pub atan-ascends : Ascends entries eighthTurn atanOctant
 unfolding atanOctant
-atan-ascends = ascends-by entries 8192 atanOctant refl refl refl tt
+atan-ascends = ascends-by entries eighthTurn atanOctant refl refl refl tt
 
-pub atan-le : (i : ℕ) → i < entries → getD atanOctant i 0 ≤ 8192
+pub atan-le : (i : ℕ) → i < entries → getD atanOctant i 0 ≤ eighthTurn
 atan-le i h = ascends-le atan-ascends i h

@@ -1,11 +1,11 @@
 -- The two walks over a frame's angles, on plain values: what is done, and the walk on from there. Assumes nothing.
 use mathlib.Core.Path.{_≡_, refl, sym, ap, _∙_}
-use mathlib.Core.List.{List, [], _∷_, _++_, append-nil}
-use Prim.Native.Nat.{ℕ, suc, _+_, _-_, _*_, _^_, _≤_, _<_}
+use mathlib.Core.List.{List, _∷_, _++_, append-nil}
+use Prim.Native.Nat.{ℕ, suc, _+_, _-_, _*_, _≤_, _<_}
 use native.Mathlib.Numerals.{add-one}
 use native.Mathlib.Omega.{arith}
 use lib.IntN.{ℤ, pos, natAbs, _+ℤ_, _-ℤ_, _*ℤ_, +ℤ-idl, +ℤ-idr, +ℤ-assoc}
-use lib.ListN.{length, getD, take, drop, set, replicate, length-set, length-replicate, take-append-drop}
+use lib.ListN.{length, getD, take, drop, set, replicate, length-set, take-append-drop}
 use mir.Syntax.{w16, w64}
 use mir.Val.{SFits}
 use Rattle.num.specs.Sum.{sumZ}
@@ -14,7 +14,7 @@ use Rattle.num.proofs.Abs.{sfits-abs, abs-sfits, abs-add, abs-mul, mul-le}
 use Rattle.num.proofs.Fill.{next, done, put, rest-set}
 use Rattle.num.proofs.Wrap.{wrap16-fits}
 use Rattle.csi.specs.Layout.{maxSubcarriers}
-use Rattle.phase.specs.Line.{walk, unwrapped, weighted, slopeOf, interceptOf, residualOf, residuals, phasesOf, arc, placeMost, SumsOf}
+use Rattle.phase.specs.Line.{walk, unwrapped, weighted, slopeOf, interceptOf, residualOf, residuals, phasesOf, arc, SumsOf}
 
 -- k angles are walked: where the walk is, and the angle it is at
 pub record Along (n : ℕ) (at prev : ℤ) (k : ℕ) : Type 0 where

@@ -71,11 +71,15 @@ arc = 32768
 abbrev pub placeMost : ℕ
 placeMost = arc * maxSubcarriers
 
+-- the slope for places of at most one unit each (two of them have the steepest line)
+abbrev pub steepest : ℕ
+steepest = 8 * maxSubcarriers + 4
+
 abbrev pub slopeMost : ℕ
-slopeMost = 2 ^ 41
+slopeMost = steepest * (arc * one)
 
 abbrev pub interceptMost : ℕ
-interceptMost = 2 ^ 53
+interceptMost = 2 ^ 56
 
 -- su and sku are the sums of n places on a walk
 pub record SumsOf (us : List ℤ) (n : ℕ) (su sku : ℤ) : Type 0 where

@@ -1,5 +1,5 @@
 -- What the calls answer (document 01, "Phase" and the refusals; phase.rs, `Phases`, `CsiFrame::phases`). Assumes nothing.
-use mathlib.Core.Bool.{Bool, cond, _&&_}
+use mathlib.Core.Bool.{cond, _&&_}
 use mathlib.Core.List.{List, _++_, map}
 use Prim.Native.Nat.{ℕ, _+_, _-_, _*_, _≤_}
 use lib.Dec.{leb, eqb}

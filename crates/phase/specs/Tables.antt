@@ -2,9 +2,12 @@
 use Prim.Native.Nat.{ℕ}
 use mathlib.Core.List.{List, [], _∷_}
 
--- how many entries it has
+-- how many entries it has, and its last, an eighth of a turn
 abbrev pub entries : ℕ
 entries = 257
+
+abbrev pub eighthTurn : ℕ
+eighthTurn = 8192
 
 -- atan(i / 256) in binary radians, i from 0 to 256
 unfoldable pub atanOctant : List ℕ

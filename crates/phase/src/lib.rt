@@ -1,7 +1,7 @@
 // The phase of a channel sample (phase.rs): angles in binary radians, 65,536 to a turn.
 ghost use mathlib.Core.Path.{_≡_};
 ghost use Prim.Native.Nat.{_≤_, _<_, min, max};
-ghost use Rattle.phase.specs.Tables.{atanOctant, entries};
+ghost use Rattle.phase.specs.Tables.{atanOctant, entries, eighthTurn};
 ghost use Rattle.phase.specs.Phases.{refused, anglesAnswer};
 ghost use Rattle.phase.specs.Angle.{tableIndex, octantAngle, firstQuadrant, mirrorX, angleOf, quarterTurn, halfTurn, most};
 
@@ -31,7 +31,7 @@ fn table_index(lo: u32, hi: u32) -> usize
 // The angle from that axis; 0 where the point is the origin.
 fn octant(table: &[u16; ENTRIES], lo: u32, hi: u32) -> u32
     requires { ⌜ (lo ≤ hi) × (hi ≤ most) × (now table ≡ atanOctant) ⌝ }
-    ensures { λ r. ⌜ (r ≡ octantAngle lo hi) × (r ≤ 8192) ⌝ }
+    ensures { λ r. ⌜ (r ≡ octantAngle lo hi) × (r ≤ eighthTurn) ⌝ }
 {
     if hi == 0 {
         return 0;
@@ -52,7 +52,7 @@ fn greater(a: u32, b: u32) -> u32
 }
 
 // The angle in the first quadrant of a point with these distances from the axes. Above the diagonal it is a quarter turn less
-// the angle from the y axis.
+// the angle from the y axis. The smaller distance over the larger serves both sides, without a branch.
 fn first_quadrant(table: &[u16; ENTRIES], ay: u32, ax: u32) -> u32
     requires { ⌜ (ay ≤ most) × (ax ≤ most) × (now table ≡ atanOctant) ⌝ }
     ensures { λ r. ⌜ (r ≡ firstQuadrant ay ax) × (r ≤ quarterTurn) ⌝ }
@@ -97,7 +97,7 @@ pub struct Angles {
     pub count: u8,
 }
 
-// The phase that is left where the frame's line is taken off, of each subcarrier in use. The first `count` are, and 0 stands behind them.
+// What is left of the angles where the frame's line is taken off, one for each subcarrier in use: the first `count`. Behind them stands 0.
 #[repr(C)]
 pub struct Phases {
     pub phase: [i16; MAX_SUBCARRIERS],
@@ -126,6 +126,9 @@ fn refuse(number: u8) -> MeasuredPhases
 // The fewest points that a line is drawn through.
 const MIN_POINTS: usize = 2;
 
+// The refusal of hand-made angles by their count.
+const COUNT: u8 = 7;
+
 impl Angles {
     // The phases of these angles. Refusal 7: more than 64, or fewer than 2.
     pub fn phases(self) -> MeasuredPhases
@@ -133,10 +136,10 @@ impl Angles {
     {
         let n = self.count as usize;
         if n < MIN_POINTS {
-            return refuse(7);
+            return refuse(COUNT);
         }
         if MAX_SUBCARRIERS < n {
-            return refuse(7);
+            return refuse(COUNT);
         }
         let angle = self.angle;
         MeasuredPhases {

@@ -2,7 +2,7 @@
 ghost use mathlib.Core.Path.{_≡_};
 ghost use Prim.Native.Nat.{_≤_, _<_};
 ghost use lib.ListN.{getD};
-ghost use Rattle.phase.specs.Tables.{atanOctant, entries};
+ghost use Rattle.phase.specs.Tables.{atanOctant, entries, eighthTurn};
 
 // The entries of the table.
 pub(crate) const ENTRIES: usize = 257;
@@ -278,7 +278,7 @@ pub(crate) fn atan_table() -> [u16; ENTRIES]
 // Entry i of the table.
 pub(crate) fn atan_octant(table: &[u16; ENTRIES], i: usize) -> u16
     requires { ⌜ (i < entries) × (now table ≡ atanOctant) ⌝ }
-    ensures { λ r. ⌜ (r ≡ getD atanOctant i 0) × (r ≤ 8192) ⌝ }
+    ensures { λ r. ⌜ (r ≡ getD atanOctant i 0) × (r ≤ eighthTurn) ⌝ }
 {
     table[i]
 }

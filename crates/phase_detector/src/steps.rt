@@ -188,15 +188,16 @@ pub fn begin(rows: &mut [u8], w: usize) -> Sums
 }
 
 // The mean over the first `count` columns of their circular variance, in parts per million.
-fn compute_wander(w: usize, carried: Sums, count: usize) -> u32
+fn compute_wander(w: u64, carried: Sums, count: usize) -> u32
     requires { ⌜ (1 ≤ w) × (w ≤ maxRows) ⌝ }
     requires { ⌜ (1 ≤ count) × (count ≤ columns) ⌝ }
     requires { ⌜ ((sc : ℕ) → sc < columns → ColumnRange w (getD (carried .cos) sc (pos 0)) (getD (carried .sin) sc (pos 0))) ⌝ }
     ensures { λ r. ⌜ r ≡ carriedPpm w count (carried .cos) (carried .sin) ⌝ }
 {
+    let m = window::steps::row_reciprocal(w);
     let mut total = 0u32;
     for sc in 0..count {
-        total += vectors::steps::column_ppm(w as i32, carried.cos[sc], carried.sin[sc]);
+        total += vectors::steps::column_ppm(w, m, carried.cos[sc], carried.sin[sc]);
     }
     total / (count as u32)
 }
@@ -218,7 +219,7 @@ fn settled_state(
     if s.filled < w {
         return s;
     }
-    let m = compute_wander(w, carried, count);
+    let m = compute_wander(w as u64, carried, count);
     detector::steps::decide(limits, time, m, s)
 }
 

@@ -5,7 +5,7 @@ ghost use Prim.Native.Nat.{ℕ, _+_, _*_, _^_, _<_, _≤_};
 ghost use lib.ListN.{length, take, getD, set};
 ghost use Rattle.num.specs.Root.{root};
 ghost use Rattle.num.specs.Sum.{square};
-ghost use Rattle.window.specs.Window.{columns, maxRows, ringRows, overwrite};
+ghost use Rattle.window.specs.Window.{columns, maxRows, ringRows, overwrite, rowReciprocal};
 ghost use Rattle.window.specs.Sums.{Carried, Ring, isRing};
 ghost use Rattle.detector.specs.State.{settledState};
 ghost use Rattle.detector.specs.Detector.{Valid, isValid, Pushes};
@@ -176,19 +176,19 @@ fn scaled_root(scaled: u64) -> u64
     num::isqrt64(scaled)
 }
 
-// The wander of one column, permille, from its sum and square sum over w rows.
-fn column_wander(w: u64, sum: u32, sumsq: u64) -> u32
-    requires { ⌜ (1 ≤ w) × (w ≤ maxRows) ⌝ }
+// The wander of one column, permille, from its sum and square sum over w rows, whose reciprocal is m.
+fn column_wander(w: u64, m: u64, sum: u32, sumsq: u64) -> u32
+    requires { ⌜ (1 ≤ w) × (w ≤ maxRows) × (m ≡ rowReciprocal w) ⌝ }
     requires { ⌜ ColumnRange w sum sumsq ⌝ }
     ensures { λ r. ⌜ r ≡ columnWander w sum sumsq ⌝ }
 {
     let s = sum as u64;
-    let mean = s / w;
+    let mean = window::steps::per_row(s, w, m);
     if mean == 0 {
         return 0;
     }
     let var_w2 = num::saturating_sub(w * sumsq, s * s);
-    let std16 = scaled_root(256 * var_w2) / w;
+    let std16 = window::steps::per_row(scaled_root(256 * var_w2), w, m);
     (std16 as u32) * 1000 / ((mean as u32) * 16)
 }
 
@@ -199,9 +199,10 @@ fn compute_wander(w: u64, carried: Sums, count: usize) -> u32
     requires { ⌜ ((sc : ℕ) → sc < columns → ColumnRange w (getD (carried .sum) sc 0) (getD (carried .sumsq) sc 0)) ⌝ }
     ensures { λ r. ⌜ r ≡ carriedWander w count (carried .sum) (carried .sumsq) ⌝ }
 {
+    let m = window::steps::row_reciprocal(w);
     let mut total = 0u64;
     for sc in 0..count {
-        total += column_wander(w, carried.sum[sc], carried.sumsq[sc]) as u64;
+        total += column_wander(w, m, carried.sum[sc], carried.sumsq[sc]) as u64;
     }
     let mean = total / (count as u64);
     if mean < MAX_PERMILLE as u64 {

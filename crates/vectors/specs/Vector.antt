@@ -45,9 +45,13 @@ divRound (negsuc a) b = negℤ (pos ((suc a + b / 2) / b))
 unfoldable pub meanSquare : ℤ → ℤ → ℕ → ℕ
 meanSquare c s w = natAbs (divRound c w) * natAbs (divRound c w) + natAbs (divRound s w) * natAbs (divRound s w)
 
--- what is missing of a length of 16,384, in parts per million, from the squared length: the length is the root at double resolution, rounded
+-- the root, taken at double resolution and rounded
+abbrev pub roundedRoot : ℕ → ℕ
+roundedRoot sq = (root (4 * sq) + 1) / 2
+
+-- what is missing of a length of 16,384, in parts per million, from the squared length
 unfoldable pub missingPpm : ℕ → ℕ
-missingPpm sq = (16384 - min 16384 ((root (4 * sq) + 1) / 2)) * 15625 / 256
+missingPpm sq = (16384 - min 16384 (roundedRoot sq)) * 15625 / 256
 
 -- the circular variance of w angles whose unit vectors add up to (c, s), in parts per million
 unfoldable pub columnPpm : (w : ℕ) (c s : ℤ) → ℕ

@@ -1,4 +1,4 @@
-// Unit vectors of angles in binary radians (phase.rs, `unit_vector`, `div_round` and a column of `compute_wander`).
+// Unit vectors of angles in binary radians (phase.rs, `unit_vector` and a column of `compute_wander`).
 pub mod steps;
 pub mod tables;
 

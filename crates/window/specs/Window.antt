@@ -1,7 +1,7 @@
 -- A window: the last rows of a detector, oldest first, and the ring in memory that shows it (csi.rs and phase.rs, `ring`, `next`, `filled`;
 -- vitals.rs likewise). A row is the list of its entries. Assumes nothing.
 use mathlib.Core.Path.{_≡_}
-use Prim.Native.Nat.{ℕ, zero, suc, _+_, _-_, _*_, _%_, min}
+use Prim.Native.Nat.{ℕ, zero, suc, _+_, _-_, _*_, _/_, _%_, min}
 use mathlib.Core.Bool.{cond}
 use mathlib.Core.List.{List, [], _∷_, _++_, map}
 use lib.Dec.{ltb}
@@ -15,6 +15,13 @@ columns = 64
 -- the most rows that a ring has
 abbrev pub maxRows : ℕ
 maxRows = 8192
+
+-- what a number is multiplied by, before a division by 2⁴⁵, in place of a division by w; and the largest quotient that this gives
+abbrev pub rowReciprocal : ℕ → ℕ
+rowReciprocal w = 35184372088832 / w + 1
+
+abbrev pub mostPerRow : ℕ
+mostPerRow = 524280
 
 -- what stands in one column of the rows
 unfoldable pub column : List (List ℕ) → ℕ → List ℕ

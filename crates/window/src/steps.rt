@@ -1,11 +1,14 @@
 // Entries and rows of a ring in memory. The caller has tested the memory's length and the places.
 ghost use mathlib.Core.Path.{_≡_};
 ghost use mathlib.Core.List.{[]};
-ghost use Prim.Native.Nat.{_+_, _*_, _<_, _≤_};
+ghost use Prim.Native.Nat.{_+_, _*_, _/_, _<_, _≤_};
 ghost use lib.ListN.{length, getD, set};
 ghost use Rattle.window.specs.Words.{words, putWord};
-ghost use Rattle.window.specs.Window.{columns, maxRows, ringRows, overwrite};
+ghost use Rattle.window.specs.Window.{columns, maxRows, ringRows, overwrite, rowReciprocal, mostPerRow};
 use crate::COLUMNS;
+
+// 2^45: what the reciprocal of a number of rows is scaled by.
+const SCALE: u64 = 35184372088832;
 
 // The entry `at`: two bytes, low byte first.
 pub fn entry(rows: &[u8], at: usize) -> u16
@@ -34,4 +37,20 @@ pub fn write_row(rows: &mut [u8], w: usize, slot: usize, new: [u16; COLUMNS], co
     for sc in 0..count {
         put_entry(rows, base + sc, new[sc]);
     }
+}
+
+// What x is multiplied by in place of a division by w.
+pub fn row_reciprocal(w: u64) -> u64
+    requires { ⌜ 1 ≤ w ⌝ }
+    ensures { λ r. ⌜ r ≡ rowReciprocal w ⌝ }
+{
+    SCALE / w + 1
+}
+
+// x / w, with the reciprocal m of w: a product and a shift.
+pub fn per_row(x: u64, w: u64, m: u64) -> u64
+    requires { ⌜ (1 ≤ w) × (w ≤ maxRows) × (m ≡ rowReciprocal w) × (x / w ≤ mostPerRow) ⌝ }
+    ensures { λ r. ⌜ r ≡ x / w ⌝ }
+{
+    x * m / SCALE
 }

@@ -1,7 +1,7 @@
 -- `phase::first_quadrant` meets its contract. Assumes nothing.
 use mathlib.Core.Path.{_≡_, _∙_}
 use native.Mathlib.Omega.{arith}
-use Prim.Native.Nat.{ℕ, min, max}
+use Prim.Native.Nat.{min, max}
 use borrow.Author.Needs.{needs}
 use Rattle.phase.specs.Angle.{octantAngle}
 use Rattle.phase.proofs.Octants.{below-diagonal, above-diagonal}

@@ -1,5 +1,5 @@
 -- `phase::frame::angle_at` meets its contract. Assumes nothing.
-use mathlib.Core.Path.{_≡_, refl, _∙_}
+use mathlib.Core.Path.{_∙_}
 use borrow.Author.Needs.{needs, sfits-of}
 use mir.Syntax.{w8, w16}
 use mir.Val.{SFits}

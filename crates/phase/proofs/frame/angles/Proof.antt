@@ -1,11 +1,9 @@
 -- `phase::frame::angles` meets its contract: the angles of the one range, and behind them those of the other. Assumes nothing.
-use mathlib.Core.Path.{_≡_, ap, sym, _∙_}
-use Prim.Native.Nat.{ℕ, _+_, _-_, _*_, _≤_}
+use Prim.Native.Nat.{_-_}
 use native.Mathlib.Omega.{arith}
 use borrow.Author.Needs.{needs}
 use Rattle.csi.proofs.Entries.{length-entries}
 use Rattle.phase.specs.Angle.{entryAngle}
-use Rattle.phase.specs.Phases.{RangeFits}
 use Rattle.phase.proofs.Ranges.{both-ranges}
 use Rattle.phase.proofs.frame.angles.Statement.{statement}
 use Rattle.phase.proofs.frame.angles.Tie as tie

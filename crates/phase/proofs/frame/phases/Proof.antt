@@ -1,5 +1,5 @@
 -- `phase::frame::phases` meets its contract. Assumes nothing.
-use mathlib.Core.Path.{_≡_, sym, _∙_}
+use mathlib.Core.Path.{sym, _∙_}
 use borrow.Author.Needs.{needs}
 use Rattle.phase.proofs.Answers.{no-phases, some-phases}
 use Rattle.phase.proofs.frame.phases.Statement.{statement}

@@ -1,7 +1,7 @@
 -- `phase::frame::range_angles` meets its contract. Assumes nothing.
-use mathlib.Core.Path.{_≡_, refl, ap, sym, _∙_}
+use mathlib.Core.Path.{_≡_, ap, sym, _∙_}
 use mathlib.Core.List.{List, _++_, map}
-use Prim.Native.Nat.{ℕ, _+_, _-_, _*_, _≤_, _<_}
+use Prim.Native.Nat.{ℕ, _+_, _-_, _≤_, _<_}
 use native.Mathlib.Omega.{arith}
 use borrow.Author.Needs.{needs, sfits-of}
 use lib.IntN.{ℤ}
@@ -9,7 +9,7 @@ use lib.ListN.{length, getD, take, drop, set}
 use mir.Syntax.{w16}
 use mir.Val.{SFits}
 use mir.Facts.{toZ-ofZ}
-use Rattle.csi.specs.Layout.{upFrom}
+use Rattle.csi.specs.Layout.{maxSubcarriers, upFrom}
 use Rattle.csi.proofs.Entries.{length-upFrom, getD-upFrom}
 use Rattle.num.proofs.Placed.{Placed, none-placed, place-next, all-placed}
 use Rattle.phase.specs.Angle.{entryAngle}
@@ -68,7 +68,7 @@ angle-at-requires c κs =
     (omega (arith, s .pre .0 .few), omega (arith, s .pre .0 .read), s .pre .2)
 
 -- the place is inside
-inside : (c : tie.In-loop Inv-loop μ-loop) → c .before .loop .at < 64
+inside : (c : tie.In-loop Inv-loop μ-loop) → c .before .loop .at < maxSubcarriers
 inside c =
     let l = c .before in let s = l .before .before in let w = l .loop .inv in
     omega (arith, w .from, w .place, s .pre .0 .room, c .loop-test .taken)

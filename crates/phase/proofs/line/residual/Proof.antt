@@ -1,43 +1,20 @@
 -- `phase::line::residual` meets its contract. Assumes nothing.
-use mathlib.Core.Path.{_≡_, refl, sym, ap, _∙_}
-use Prim.Native.Nat.{ℕ, _*_, _^_, _≤_, _<_}
+use mathlib.Core.Path.{_≡_, _∙_}
 use native.Mathlib.Omega.{arith}
 use borrow.Author.Needs.{needs, sfits-of}
-use lib.IntN.{ℤ, pos, natAbs, _-ℤ_, _*ℤ_}
-use lib.Signed.{shrZ}
+use lib.IntN.{pos}
 use mir.Syntax.{w16, w64}
 use mir.Val.{SFits, toZ}
 use mir.Facts.{toZ-ofZ, toZ-pos}
-use Rattle.num.specs.Wrap.{wrap16}
-use Rattle.num.proofs.Abs.{sfits-abs, abs-sub, abs-mul, mul-le, shr-fits}
+use Rattle.num.proofs.Abs.{shr-fits}
 use Rattle.phase.specs.Line.{residualOf}
+use Rattle.phase.proofs.Fits.{ResidualFits, residual-fits}
 use Rattle.phase.proofs.line.residual.Statement.{statement}
 use Rattle.phase.proofs.line.residual.Tie as tie
 
--- every step fits
-record Fit (v : ℤ) (k : ℕ) (slope icpt : ℤ) : Type 0 where
-  scaled : SFits w64 (v *ℤ pos 65536)
-  rise : SFits w64 (slope *ℤ pos k)
-  less : SFits w64 (v *ℤ pos 65536 -ℤ slope *ℤ pos k)
-  whole : SFits w64 (v *ℤ pos 65536 -ℤ slope *ℤ pos k -ℤ icpt)
-
-fit : (v : ℤ) (k : ℕ) (slope icpt : ℤ) → natAbs v ≤ 2 ^ 21 → k < 64 → natAbs slope ≤ 2 ^ 41 → natAbs icpt ≤ 2 ^ 53 → Fit v k slope icpt
-fit v k slope icpt hv hk hs hi =
-    let a = v *ℤ pos 65536 in let b = slope *ℤ pos k in
-    let ea : natAbs a ≡ natAbs v * 65536 = abs-mul v (pos 65536) in
-    let eb : natAbs b ≡ natAbs slope * k = abs-mul slope (pos k) in
-    let lb : natAbs slope * k ≤ 2 ^ 41 * 64 = mul-le {B = 64} hs (omega arith) in
-    let lc = abs-sub a b in let ld = abs-sub (a -ℤ b) icpt in
-    record {
-      scaled = sfits-abs a (omega arith);
-      rise = sfits-abs b (omega arith);
-      less = sfits-abs (a -ℤ b) (omega arith);
-      whole = sfits-abs (a -ℤ b -ℤ icpt) (omega arith);
-    }
-
 module _ (c : tie.Start) where
-  fits : Fit (c .args .v) (c .args .k) (c .args .slope) (c .args .icpt)
-  fits = fit (c .args .v) (c .args .k) (c .args .slope) (c .args .icpt) (c .pre .0) (c .pre .1) (c .pre .2) (c .pre .3)
+  fits : ResidualFits (c .args .v) (c .args .k) (c .args .slope) (c .args .icpt)
+  fits = residual-fits (c .args .v) (c .args .k) (c .args .slope) (c .args .icpt) (c .pre .0) (c .pre .1) (c .pre .2) (c .pre .3)
 
   k-is : toZ w64 (c .args .k) ≡ pos (c .args .k)
   k-is = toZ-pos w64 (omega arith)

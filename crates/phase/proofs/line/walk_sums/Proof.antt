@@ -1,9 +1,9 @@
 -- `phase::line::walk_sums` meets its contract: the sums so far and those of the rest make the whole. Assumes nothing.
-use mathlib.Core.Path.{_≡_, ap, _∙_}
-use Prim.Native.Nat.{ℕ, _-_, _≤_}
+use mathlib.Core.Path.{_≡_, _∙_}
+use Prim.Native.Nat.{_-_, _≤_}
 use native.Mathlib.Omega.{arith}
 use borrow.Author.Needs.{needs, sfits-of}
-use lib.IntN.{ℤ, pos, _+ℤ_}
+use lib.IntN.{pos}
 use lib.ListN.{length, getD}
 use mir.Syntax.{w16, w64}
 use mir.Val.{SFits, toZ, ofZ}

@@ -1,9 +1,9 @@
 -- `phase::steps::phases` meets its contract. Assumes nothing.
-use mathlib.Core.Path.{_≡_, refl, sym, ap, _∙_}
-use Prim.Native.Nat.{ℕ, _≤_}
+use mathlib.Core.Path.{_≡_, refl, ap, _∙_}
+use Prim.Native.Nat.{_≤_}
 use native.Mathlib.Omega.{arith}
 use borrow.Author.Needs.{needs}
-use lib.IntN.{ℤ, pos}
+use lib.IntN.{pos}
 use lib.ListN.{length, drop, replicate}
 use Rattle.csi.specs.Layout.{maxSubcarriers, layoutOf, entriesOf, needOf, Usable}
 use Rattle.csi.proofs.Answers.{served}

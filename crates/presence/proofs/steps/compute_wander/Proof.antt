@@ -13,11 +13,14 @@ use Rattle.presence.proofs.steps.compute_wander.Statement.{statement}
 use Rattle.presence.proofs.steps.compute_wander.Tie as tie
 
 abbrev Inv-loop : tie.InvT-loop
-Inv-loop w count carried total₀ sc₀ total sc =
+Inv-loop w count carried m total₀ sc₀ total sc =
     (sc ≤ count) × (total ≡ sumTo sc (λ k. columnWander w (getD (carried .sum) k 0) (getD (carried .sumsq) k 0))) × (total ≤ 2 ^ 32 * sc)
 
 abbrev μ-loop : tie.MeasureT-loop
-μ-loop w count carried total₀ sc₀ total sc = count - sc
+μ-loop w count carried m total₀ sc₀ total sc = count - sc
+
+row-reciprocal-requires : tie.Need-row-reciprocal-requires Inv-loop μ-loop
+row-reciprocal-requires c κs = search needs
 
 loop-holds : tie.Need-loop-holds Inv-loop μ-loop
 unfolding sumTo
@@ -37,8 +40,9 @@ element-copy-out-column-wander-2 c = omega arith
 
 column-wander-requires : tie.Need-column-wander-requires Inv-loop μ-loop
 column-wander-requires c κs =
-    let start = c .before .before .before .before in
-    (start .pre .0, start .pre .1 .1 (c .before .before .before .loop .sc) (omega (arith, start .pre .1 .0)))
+    let at-loop = c .before .before .before in
+    let start = at-loop .before .before in
+    ((start .pre .0 .0, start .pre .0 .1, at-loop .before .row-reciprocal .ensures), start .pre .1 .1 (c .before .before .before .loop .sc) (omega (arith, start .pre .1 .0)))
 
 cast-total : tie.Need-cast-total Inv-loop μ-loop
 cast-total c = search needs
@@ -54,7 +58,7 @@ loop-less c = omega arith
 
 loop-again : tie.Need-loop-again Inv-loop μ-loop
 loop-again c =
-    let a = c .before .before .before .before .before .args in
+    let a = c .before .before .before .before .before .before .args in
     let g : ℕ → ℕ = λ k. columnWander (a .w) (getD (a .t2 .sum) k 0) (getD (a .t2 .sumsq) k 0) in
     (omega arith, omega (arith, c .column-wander .ensures, sumTo-more (c .before .before .before .before .loop .sc) g), omega arith)
 
@@ -69,12 +73,12 @@ cast-result c = omega arith
 
 -- after the loop the total is that of all columns
 mean-is : (c : tie.After-loop Inv-loop μ-loop)
-    → c .before .loop .total / c .before .before .args .count
-    ≡ sumTo (c .before .before .args .count)
-    (λ k. columnWander (c .before .before .args .w) (getD (c .before .before .args .t2 .sum) k 0) (getD (c .before .before .args .t2 .sumsq) k 0))
-    / c .before .before .args .count
+    → c .before .loop .total / c .before .before .before .args .count
+    ≡ sumTo (c .before .before .before .args .count)
+    (λ k. columnWander (c .before .before .before .args .w) (getD (c .before .before .before .args .t2 .sum) k 0) (getD (c .before .before .before .args .t2 .sumsq) k 0))
+    / c .before .before .before .args .count
 mean-is c =
-    let a = c .before .before .args in
+    let a = c .before .before .before .args in
     let g : ℕ → ℕ = λ k. columnWander (a .w) (getD (a .t2 .sum) k 0) (getD (a .t2 .sumsq) k 0) in
     let all : c .before .loop .sc ≡ a .count = omega (arith, c .loop-test .left) in
     ap (λ (n : ℕ). n / a .count) (c .before .loop .inv .1 ∙ ap (λ (k : ℕ). sumTo k g) all)
@@ -93,6 +97,7 @@ compute-wander-spec =
     (tie.spec
     Inv-loop
     μ-loop
+    row-reciprocal-requires
     loop-holds
     mul-column-wander
     element-copy-out-column-wander

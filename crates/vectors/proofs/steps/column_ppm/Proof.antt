@@ -1,22 +1,61 @@
 -- `vectors::steps::column_ppm` meets its contract. Assumes nothing.
-use mathlib.Core.Path.{_≡_, ap, _∙_}
+use mathlib.Core.Path.{_≡_, sym, ap, _∙_}
+use Prim.Native.Nat.{ℕ, _+_, _*_, _^_, _≤_}
+use native.Mathlib.Omega.{arith}
 use borrow.Author.Needs.{needs}
+use lib.IntN.{natAbs}
 use mir.Facts.{toZ-ofZ}
-use Rattle.vectors.specs.Vector.{missingPpm, columnPpm}
+use Rattle.vectors.specs.Vector.{columnPpm, missingPpm, meanSquare}
+use Rattle.vectors.proofs.Means.{squares-le, mean-square-is}
 use Rattle.vectors.proofs.steps.column_ppm.Statement.{statement}
 use Rattle.vectors.proofs.steps.column_ppm.Tie as tie
 
-mean-square-requires : tie.Need-mean-square-requires
-mean-square-requires c κs = search needs
+mean-magnitude-requires : tie.Need-mean-magnitude-requires
+mean-magnitude-requires c κs = rw (toZ-ofZ (c .fits .cosines)) (c .pre .0, c .pre .1, c .pre .2, c .pre .3)
+
+mean-magnitude-requires-2 : tie.Need-mean-magnitude-requires-2
+mean-magnitude-requires-2 c κs = let start = c .before in rw (toZ-ofZ (start .fits .sines)) (start .pre .0, start .pre .1, start .pre .2, start .pre .4)
+
+-- the squared length
+module _ (c : tie.After-mean-magnitude2) where
+  square-small : c .before .mean-magnitude .result * c .before .mean-magnitude .result + c .mean-magnitude2 .result * c .mean-magnitude2 .result ≤ 2 ^ 29
+  square-small = squares-le (c .before .mean-magnitude .result) (c .mean-magnitude2 .result) (c .before .mean-magnitude .ensures .1) (c .mean-magnitude2 .ensures .1)
+
+  square-is : c .before .mean-magnitude .result * c .before .mean-magnitude .result + c .mean-magnitude2 .result * c .mean-magnitude2 .result
+      ≡ meanSquare (c .before .before .args .cosines) (c .before .before .args .sines) (c .before .before .args .w)
+  square-is =
+      let start = c .before .before in
+      mean-square-is (start .args .cosines) (start .args .sines) (start .args .w) (c .before .mean-magnitude .result) (c .mean-magnitude2 .result)
+      (rw (toZ-ofZ (start .fits .cosines)) at (c .before .mean-magnitude .ensures .0)) (rw (toZ-ofZ (start .fits .sines)) at (c .mean-magnitude2 .ensures .0))
+
+mul-missing-ppm : tie.Need-mul-missing-ppm
+mul-missing-ppm c = omega (arith, square-small c)
+
+mul-missing-ppm-2 : tie.Need-mul-missing-ppm-2
+mul-missing-ppm-2 c = omega (arith, square-small c)
+
+add-missing-ppm : tie.Need-add-missing-ppm
+add-missing-ppm c = omega (arith, square-small c)
+
+cast-missing-ppm : tie.Need-cast-missing-ppm
+cast-missing-ppm c = omega (arith, square-small c)
 
 missing-ppm-requires : tie.Need-missing-ppm-requires
-missing-ppm-requires c κs = search needs
+missing-ppm-requires c κs = square-small c
 
 returns : tie.Need-returns
 unfolding columnPpm
-returns c =
-    let f = c .before .before .fits in
-    c .missing-ppm .ensures ∙ ap missingPpm (rw (toZ-ofZ (f .w), toZ-ofZ (f .cosines), toZ-ofZ (f .sines)) at (c .before .mean-square .ensures .0))
+returns c = c .missing-ppm .ensures ∙ ap missingPpm (square-is (c .before))
 
 pub column-ppm-spec : {M : Type 1} → statement M
-column-ppm-spec = tie.close (tie.spec mean-square-requires missing-ppm-requires returns)
+column-ppm-spec =
+    tie.close
+    (tie.spec
+    mean-magnitude-requires
+    mean-magnitude-requires-2
+    mul-missing-ppm
+    mul-missing-ppm-2
+    add-missing-ppm
+    cast-missing-ppm
+    missing-ppm-requires
+    returns)

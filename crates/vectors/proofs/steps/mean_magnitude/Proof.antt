@@ -1,0 +1,39 @@
+-- `vectors::steps::mean_magnitude` meets its contract. Assumes nothing.
+use mathlib.Core.Path.{_≡_, sym, ap, _∙_}
+use Prim.Native.Nat.{ℕ, _+_, _/_, _≤_}
+use native.Mathlib.Omega.{arith}
+use borrow.Author.Needs.{needs}
+use lib.IntN.{natAbs}
+use mir.Facts.{toZ-ofZ}
+use Rattle.vectors.proofs.Means.{abs-round, mean-le}
+use Rattle.vectors.proofs.steps.mean_magnitude.Statement.{statement}
+use Rattle.vectors.proofs.steps.mean_magnitude.Tie as tie
+
+unsigned-abs-i32-requires : tie.Need-unsigned-abs-i32-requires
+unsigned-abs-i32-requires c κs = search needs
+
+-- the magnitude is that of the component
+module _ (c : tie.After-unsigned-abs-i32) where
+  size-is : c .unsigned-abs-i32 .result ≡ natAbs (c .before .args .a)
+  size-is = rw (toZ-ofZ (c .before .fits .a)) at (c .unsigned-abs-i32 .ensures)
+
+  mean-is : (c .unsigned-abs-i32 .result + c .before .args .w / 2) / c .before .args .w ≡ (natAbs (c .before .args .a) + c .before .args .w / 2) / c .before .args .w
+  mean-is = ap (λ (n : ℕ). (n + c .before .args .w / 2) / c .before .args .w) size-is
+
+  mean-small : (natAbs (c .before .args .a) + c .before .args .w / 2) / c .before .args .w ≤ 16384
+  mean-small = mean-le (c .before .args .a) (c .before .args .w) (c .before .pre .0) (c .before .pre .3)
+
+add-per-row : tie.Need-add-per-row
+add-per-row c = omega (arith, size-is c)
+
+per-row-requires : tie.Need-per-row-requires
+per-row-requires c κs = let start = c .before in (start .pre .0, start .pre .1, start .pre .2, omega (arith, mean-is c, mean-small c))
+
+returns : tie.Need-returns
+returns c =
+    let at-size = c .before in
+    let a = at-size .before .args in
+    (c .per-row .ensures ∙ mean-is at-size ∙ sym (abs-round (a .a) (a .w)), omega (arith, c .per-row .ensures, mean-is at-size, mean-small at-size))
+
+pub mean-magnitude-spec : {M : Type 1} → statement M
+mean-magnitude-spec = tie.close (tie.spec unsigned-abs-i32-requires add-per-row per-row-requires returns)
