@@ -1,17 +1,14 @@
 -- Every layout has the two points that a line needs, by one test of all layouts. Assumes nothing.
-use mathlib.Core.Path.{_≡_, refl}
-use mathlib.Core.Bool.{Bool, true, false, _&&_}
+use mathlib.Core.Path.{_≡_}
+use mathlib.Core.Bool.{true}
 use Prim.Native.Nat.{ℕ, _+_, _≤_, _<_}
 use native.Mathlib.Omega.{arith}
 use lib.Dec.{leb}
 use lib.ListN.{length}
 use borrow.Author.Tests.{leb-true}
+use Rattle.num.proofs.Logic.{both}
 use Rattle.num.proofs.Table.{between-le}
 use Rattle.csi.specs.Layout.{layouts, known, layoutOf, entriesOf, upFrom}
-
-both : (x y : Bool) → x && y ≡ true → (x ≡ true) × (y ≡ true)
-both true y e = (refl, e)
-both false y e = let z : _≡_ {A = ℕ} 0 1 = cc in absurd (omega arith)
 
 pub two-points : (tag : ℕ) → known tag ≡ true → 2 ≤ length (entriesOf (layoutOf tag))
 unfolding known layouts layoutOf entriesOf upFrom
