@@ -15,7 +15,7 @@ use Rattle.window.proofs.Check.{ring-told}
 use Rattle.window.proofs.Ring.{ring-zero}
 use Rattle.window.proofs.View.{window-none}
 use Rattle.detector.specs.State.{Placed, isPlaced, newState, resetState}
-use Rattle.detector.specs.Detector.{Kind, Valid, isValid, Pushes, detectorOf, restart}
+use Rattle.detector.specs.Detector.{Kind, Valid, isValid, Pushes, detectorOf, newDetector, restart}
 use Rattle.detector.specs.Calls.{isWindow, newRefusal, resetRefusal, pushRefusal, zeroSums, Clears, Begins, Resets, Keeps, Calls}
 use Rattle.detector.specs.declared.Limits.{Limits}
 use Rattle.detector.specs.declared.State.{State}
@@ -66,6 +66,11 @@ sized w e = let both = tells-both (leb 1 w) (leb w maxRows) (tells-le 1 w) (tell
 pub valid-new : (K : Kind) (w c : ℕ) (bytes : List ℕ) (fs gs : List (K .sums .Number)) → 1 ≤ w → Ring (K .sums) w c bytes fs gs → Valid K w c newState bytes fs gs
 valid-new K w c bytes fs gs some ring =
     record { ring = ring; placed = record { slot = omega arith; most = omega arith; narrow = omega arith; calm = omega arith } }
+
+-- and it stands for a new detector, whatever the rows hold
+pub new-view : (rows : List (List ℕ)) → detectorOf newState rows ≡ newDetector
+unfolding detectorOf
+new-view rows = ap (λ (l : List (List ℕ)). record { window = l; wander = 0; present = false; last = 0 }) (window-none 0 0 rows)
 
 module _ (K : Kind) (w c : ℕ) (bytes : List ℕ) where
   pub new-window : isWindow w ≡ false → Begins K w c bytes 1 newState bytes (replicate c (K .sums .none)) (replicate c (K .sums .none))

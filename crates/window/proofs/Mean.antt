@@ -35,16 +35,35 @@ length-perm (List·Permᴰ·cons e p) = ap suc (length-perm p)
 length-perm (List·Permᴰ·swap d e) = refl
 length-perm (List·Permᴰ·trans p q) = length-perm p ∙ length-perm q
 
+-- rows in another order are as wide
+long-perm : {n : ℕ} {window other : List (List ℕ)} → List·Permᴰ window other → Long n window → Long n other
+long-perm List·Permᴰ·nil long i h = long i h
+long-perm (List·Permᴰ·cons e p) long zero h = rw (← e) (long 0 (omega arith))
+long-perm (List·Permᴰ·cons e p) long (suc i) h = long-perm p (λ j k. long (suc j) (omega arith)) i (omega arith)
+long-perm (List·Permᴰ·swap d e) long zero h = rw (← e) (long 1 (omega arith))
+long-perm (List·Permᴰ·swap d e) long (suc zero) h = rw (← d) (long 0 (omega arith))
+long-perm (List·Permᴰ·swap d e) long (suc (suc i)) h = long (suc (suc i)) (omega arith)
+long-perm (List·Permᴰ·trans p q) long i h = long-perm q (long-perm p long) i h
+
+pub width-perm : {n : ℕ} {window other : List (List ℕ)} → List·Permᴰ window other → Long n window → width window ≡ width other
+width-perm {n} {window} {other} p long = go window other (length-perm p) long (long-perm p long)
+  where
+    go : (xs ys : List (List ℕ)) → length xs ≡ length ys → Long n xs → Long n ys → width xs ≡ width ys
+    go [] [] e lx ly = refl
+    go [] (y ∷ ys) e lx ly = absurd (omega arith)
+    go (x ∷ xs) [] e lx ly = absurd (omega arith)
+    go (x ∷ xs) (y ∷ ys) e lx ly = lx 0 (omega arith) ∙ sym (ly 0 (omega arith))
+
 -- every row of a ring has c entries
 pub ring-long : (w c : ℕ) (bytes : List ℕ) → length bytes ≡ 2 * (w * c) → Long c (ringRows w c bytes)
 ring-long w c bytes whole i h = length-ring-row w c bytes whole i (rw (length-cut w c (words bytes)) at h)
 
 module _ (S : Summing) (lawful : Lawful S) (term : ℕ → S .Number → S .Number → ℕ) where
-  -- A FULL WINDOW HAS NO ORDER. Repeated rows count as often as they occur; the rows of a window are equally wide
-  pub mean-no-order : {window other : List (List ℕ)} → List·Permᴰ window other → width window ≡ width other → windowMean S term window ≡ windowMean S term other
+  -- A WINDOW HAS NO ORDER. Repeated rows count as often as they occur; the rows of a window are equally wide
+  pub mean-no-order : {n : ℕ} {window other : List (List ℕ)} → Long n window → List·Permᴰ window other → windowMean S term window ≡ windowMean S term other
   unfolding windowMean
-  mean-no-order {window} {other} p wide =
-      rw (length-perm p, wide)
+  mean-no-order {n} {window} {other} long p =
+      rw (length-perm p, width-perm p long)
       (ap (λ (t : ℕ). t / width other)
       (sumTo-same (width other) (λ sc. term (length other) (first S window sc) (second S window sc)) (λ sc. term (length other) (first S other sc) (second S other sc))
       (λ k h. rw (column-perm (S .add) (S .none) (lawful .exchange) (S .f) p k, column-perm (S .add) (S .none) (lawful .exchange) (S .g) p k))))
