@@ -13,7 +13,7 @@ pub const SETTINGS_LEN: usize = 118;
 pub const ANSWER_LEN: usize = 24;
 
 /// The memory's bytes before the rows.
-const MEMORY_HEADER: usize = 2048;
+const MEMORY_HEADER: usize = 1994;
 
 /// The length of memory that these settings need.
 pub fn memory_len(settings: &Settings) -> usize {

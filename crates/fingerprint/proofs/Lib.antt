@@ -1,4 +1,3 @@
 pub mod Answers
-pub mod Cases
 pub mod Good
 pub mod Ranges

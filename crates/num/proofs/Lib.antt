@@ -2,11 +2,17 @@ pub mod Abs
 pub mod Arrays
 pub mod Bits
 pub mod Byte
+pub mod Clamp
 pub mod Cond
 pub mod Diff
+pub mod Divisor
+pub mod Dot
 pub mod Fill
+pub mod First
+pub mod Lists
 pub mod Logic
 pub mod Map
+pub mod Order
 pub mod Parts
 pub mod Placed
 pub mod Ratio
@@ -17,8 +23,10 @@ pub mod Rules
 pub mod Squares
 pub mod Stored
 pub mod Sum
+pub mod SumZ
 pub mod Table
 pub mod Tests
+pub mod Totals
 pub mod Words
 pub mod Wrap
 mod Estimate

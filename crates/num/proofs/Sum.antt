@@ -28,19 +28,19 @@ sum-le k {B} {s} {x} h l = rw (mul-add B k 1, mul-one B) (omega arith)
 pub mean-le : (B n s : ℕ) → s ≤ B * n → s / n ≤ B
 mean-le B n s h = div-le-of-le-mul n (subst (λ (m : ℕ). s ≤ m) (mul-comm B n) h)
 
-dot-nil : (xs : List ℤ) → dotZ xs [] ≡ pos 0
+pub dot-nil : (xs : List ℤ) → dotZ xs [] ≡ pos 0
 unfolding dotZ
 dot-nil [] = refl
 dot-nil (x ∷ xs) = refl
 
 -- a sum of products ends where the shorter list does
-dot-short : (n : ℕ) (xs ys : List ℤ) → length ys ≤ n → dotZ (take n xs) ys ≡ dotZ xs ys
+pub dot-first : (n : ℕ) (xs ys : List ℤ) → length ys ≤ n → dotZ (take n xs) ys ≡ dotZ xs ys
 unfolding dotZ
-dot-short zero xs [] h = dot-nil (take zero xs) ∙ sym (dot-nil xs)
-dot-short zero xs (y ∷ ys) h = absurd (omega arith)
-dot-short (suc n) [] ys h = refl
-dot-short (suc n) (x ∷ xs) [] h = refl
-dot-short (suc n) (x ∷ xs) (y ∷ ys) h = ap (λ z. x *ℤ y +ℤ z) (dot-short n xs ys (omega arith))
+dot-first zero xs [] h = dot-nil (take zero xs) ∙ sym (dot-nil xs)
+dot-first zero xs (y ∷ ys) h = absurd (omega arith)
+dot-first (suc n) [] ys h = refl
+dot-first (suc n) (x ∷ xs) [] h = refl
+dot-first (suc n) (x ∷ xs) (y ∷ ys) h = ap (λ z. x *ℤ y +ℤ z) (dot-first n xs ys (omega arith))
 
 -- the products of the first n elements are all that there are of the first m, where n is the least of m and the lengths
 pub dot-terms : (xs ys : List ℤ) (n m : ℕ) → n ≡ min (length xs) (min (length ys) m) → dotZ (take m xs) ys ≡ dotZ (take n xs) ys
@@ -48,5 +48,5 @@ dot-terms xs ys n m e = go (decLe m n) (decLe (length ys) n)
   where
     go : Dec (m ≤ n) → Dec (length ys ≤ n) → dotZ (take m xs) ys ≡ dotZ (take n xs) ys
     go (yes h) k = let i : m ≡ n = omega arith in ap (λ (j : ℕ). dotZ (take j xs) ys) i
-    go (no g) (yes h) = dot-short m xs ys (omega arith) ∙ sym (dot-short n xs ys h)
+    go (no g) (yes h) = dot-first m xs ys (omega arith) ∙ sym (dot-first n xs ys h)
     go (no g) (no h) = rw (take-all m xs (omega arith), take-all n xs (omega arith))

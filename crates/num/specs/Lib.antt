@@ -1,6 +1,8 @@
+pub mod Clamp
+pub mod Lists
 pub mod Root
+pub mod Rules
 pub mod Sum
 pub mod Tests
-pub mod Wrap
 pub mod Words
-pub mod Rules
+pub mod Wrap

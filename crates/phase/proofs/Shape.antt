@@ -3,7 +3,7 @@
 use mathlib.Core.Path.{_≡_, refl, ap, _∙_}
 use mathlib.Core.Bool.{true}
 use mathlib.Core.List.{List, [], _∷_, map}
-use Prim.Native.Nat.{ℕ, suc, _-_}
+use Prim.Native.Nat.{ℕ, suc, _-_, _≤_}
 use native.Mathlib.Omega.{arith}
 use lib.IntN.{ℤ, pos}
 use lib.ListN.{length, take, replicate, length-append, length-map, length-replicate}
@@ -50,3 +50,8 @@ module _ (iq : List ℕ) (tag : ℕ) where
       let b = length-replicate {A = ℤ} (maxSubcarriers - length own) (pos 0) in
       let c = phases-long own in let d = length-map (entriesOf (layoutOf tag)) (entryAngle iq) in
       omega (arith, usable tag e .most)
+
+  -- all of them stand in the array, whatever the tag
+  pub frame-fits : framePhases iq tag .count ≤ length (framePhases iq tag .phase)
+  unfolding framePhases sanitised
+  frame-fits = omega (arith, length-append (phasesOf own) (replicate (maxSubcarriers - length own) (pos 0)), phases-long own)

@@ -6,6 +6,8 @@ mod csi_stream;
 mod fall;
 mod fingerprint;
 mod phase;
+mod phase_detector;
+mod presence;
 
 use std::path::PathBuf;
 use std::process::exit;
@@ -27,6 +29,8 @@ fn record(subject: &str) -> Option<(&'static str, Recorded)> {
         "fall" => ("fall_cases", fall::cases().into()),
         "fingerprint" => ("fingerprint_cases", fingerprint::cases().into()),
         "phase" => ("phase_cases", phase::cases().into()),
+        "phase_detector" => ("phase_detector_cases", phase_detector::cases().into()),
+        "presence" => ("presence_cases", presence::cases().into()),
         "roomlines" => ("roomlines", roomlines()),
         _ => return None,
     })

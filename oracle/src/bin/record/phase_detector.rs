@@ -142,23 +142,10 @@ const DEFAULT: PhaseConfig = PhaseConfig {
     hold: Micros(3_000_000),
 };
 
-/// The bench case of document 01: angles 0 and -32,768; and half of a long window each.
+/// The bench case of document 01: angles 0 and -32,768.
 fn bench() -> Vec<Run> {
-    let many = |a: i16, times: u16| Item::Frame {
-        times,
-        count: 1,
-        time: 7,
-        phase: vec![a],
-    };
-    let half = LONGEST as u16 / 2;
-    vec![
-        Run::new(2, DEFAULT, vec![many(0, 1), many(-32_768, 1)]),
-        Run::new(
-            LONGEST,
-            DEFAULT,
-            vec![many(0, half), many(-32_768, half - 1), many(-32_768, 1)],
-        ),
-    ]
+    let half_turn = [0, -32_768].map(|a: i16| frame(1, 7, vec![a]));
+    vec![Run::new(2, DEFAULT, half_turn.into())]
 }
 
 /// Window sizes and memory lengths that do not fit, with a count that does not either.

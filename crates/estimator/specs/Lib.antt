@@ -1,0 +1,7 @@
+-- Definitions that the contracts of the estimator cite: the estimate, the estimator fed frame by frame, its state in memory, its calls. `Steps` has what only the
+-- contracts of inner steps say.
+pub mod Estimate
+pub mod Estimator
+pub mod State
+pub mod Calls
+pub mod Steps

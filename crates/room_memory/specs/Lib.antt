@@ -1,0 +1,3 @@
+pub mod Arrays
+pub mod Fields
+pub mod Header

@@ -1,0 +1,56 @@
+// The room unit's memory: what stands at which byte (docs/LAYOUT.md).
+use detector::State;
+use estimator::Progress;
+use fall_words::Words;
+use fingerprint::Baseline;
+use window::COLUMNS;
+
+mod arrays;
+mod fields;
+pub mod steps;
+
+// Where the parts of the header stand, and how long it is: settings, tag, the small states, then one number a column.
+pub const SETTINGS_LEN: usize = 118;
+
+pub(crate) const TAG_AT: usize = 118;
+
+pub(crate) const PRESENCE_AT: usize = 119;
+
+pub(crate) const PHASE_AT: usize = 137;
+
+pub(crate) const BREATHING_AT: usize = 155;
+
+pub(crate) const HEART_AT: usize = 164;
+
+pub(crate) const BASELINE_AT: usize = 173;
+
+pub(crate) const FALL_AT: usize = 183;
+
+pub(crate) const SUM_AT: usize = 202;
+
+pub(crate) const SUMSQ_AT: usize = SUM_AT + 4 * COLUMNS;
+
+pub(crate) const COS_AT: usize = SUMSQ_AT + 8 * COLUMNS;
+
+pub(crate) const SIN_AT: usize = COS_AT + 4 * COLUMNS;
+
+pub(crate) const BREATHING_ACC_AT: usize = SIN_AT + 4 * COLUMNS;
+
+pub(crate) const HEART_ACC_AT: usize = BREATHING_ACC_AT + 4 * COLUMNS;
+
+pub const HEADER_LEN: usize = HEART_ACC_AT + 4 * COLUMNS;
+
+// What the unit holds beside its settings and its rows. The fall machine is in words.
+pub struct RoomState {
+    pub tag: u8,
+    pub presence: State,
+    pub presence_sums: presence::Sums,
+    pub phase: State,
+    pub phase_sums: phase_detector::Sums,
+    pub breathing: Progress,
+    pub breathing_acc: [u32; COLUMNS],
+    pub heart: Progress,
+    pub heart_acc: [u32; COLUMNS],
+    pub baseline: Baseline,
+    pub fall: Words,
+}

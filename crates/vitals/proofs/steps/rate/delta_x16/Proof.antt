@@ -1,0 +1,95 @@
+-- `delta_x16` meets its contract: what the calls ensure, put together. Assumes nothing.
+use mir.Facts.{toZ-ofZ}
+use Rattle.num.proofs.Abs.{sfits-abs}
+use mathlib.Core.Path.{_≡_, refl, sym, ap, _∙_}
+use mathlib.Core.Bool.{Bool, true, false, cond}
+use Prim.Native.Nat.{ℕ, _≤_}
+use native.Mathlib.Omega.{arith}
+use borrow.Author.Tests.{ltb-true}
+use lib.IntN.{ℤ, pos, negsuc, natAbs, _-ℤ_, _*ℤ_}
+use lib.Signed.{ltZ, quotZ}
+use mir.Syntax.{w32}
+use mir.Val.{SFits, toZ, ofZ}
+use Rattle.num.specs.Clamp.{clampZ}
+use Rattle.num.proofs.Clamp.{clamp-size}
+use Rattle.vitals.specs.Rate.{bend, vertex}
+use borrow.Author.Needs.{needs, sfits-of}
+use Rattle.vitals.proofs.steps.rate.delta_x16.Statement.{statement}
+use Rattle.vitals.proofs.steps.rate.delta_x16.Tie as tie
+use Rattle.vitals.proofs.steps.rate.delta_x16.Reads as reads
+use Rattle.vitals.proofs.steps.rate.delta_x16.Lts as lts
+use Rattle.vitals.proofs.steps.rate.bend_of.Reads as bend-of-reads
+use Rattle.vitals.proofs.steps.rate.clamp_8.Reads as clamp-8-reads
+use Rattle.vitals.proofs.steps.rate.lean.Reads as lean-reads
+
+below : (z : ℤ) → ltZ z (pos 0) ≡ true → 1 ≤ natAbs z
+below (pos n) h = omega (arith, ltb-true n 0 h)
+below (negsuc n) h = omega arith
+
+-- the bend's sign decides, d being what is read back of it
+decided : (a b c d : ℤ) {t : Bool} → d ≡ bend a b c → ltZ d (pos 0) ≡ t → vertex a b c ≡ cond t (clampZ (negsuc 7) (pos 8) (quotZ ((a -ℤ c) *ℤ pos 8) (bend a b c))) (pos 0)
+decided a b c d e p =
+    ap (λ (y : Bool). cond y (clampZ (negsuc 7) (pos 8) (quotZ ((a -ℤ c) *ℤ pos 8) (bend a b c))) (pos 0)) (ap (λ (z : ℤ). ltZ z (pos 0)) (sym e) ∙ p)
+
+vertex-size : (a b c : ℤ) → natAbs (vertex a b c) ≤ 8
+vertex-size a b c = go (ltZ (bend a b c) (pos 0))
+  where
+    go : (t : Bool) → natAbs (cond t (clampZ (negsuc 7) (pos 8) (quotZ ((a -ℤ c) *ℤ pos 8) (bend a b c))) (pos 0)) ≤ 8
+    go true = clamp-size 7 8 (quotZ ((a -ℤ c) *ℤ pos 8) (bend a b c))
+    go false = omega arith
+
+self : (z : ℤ) → natAbs z ≤ 128000 → toZ w32 (ofZ w32 z) ≡ z
+self z h = toZ-ofZ {w = w32} {z = z} (sfits-abs {w = w32} z (omega arith))
+
+sized : (a b c : ℤ) {r : ℤ} → r ≡ vertex a b c → (r ≡ vertex a b c) × (natAbs r ≤ 8)
+sized a b c e = (e, rw e (vertex-size a b c))
+
+-- what the two calls say of values that came in
+seen : (a b c r : ℤ) → natAbs a ≤ 128000 → natAbs b ≤ 128000 → natAbs c ≤ 128000 → r ≡ bend (toZ w32 (ofZ w32 a)) (toZ w32 (ofZ w32 b)) (toZ w32 (ofZ w32 c)) → r ≡ bend a b c
+seen a b c r ha hb hc e = e ∙ rw (self a ha, self b hb, self c hc)
+
+leant : (a c d r : ℤ) {y : ℤ} → natAbs a ≤ 128000 → natAbs c ≤ 128000 → y ≡ d → r ≡ quotZ ((toZ w32 (ofZ w32 a) -ℤ toZ w32 (ofZ w32 c)) *ℤ pos 8) y → r ≡ quotZ ((a -ℤ c) *ℤ pos 8) d
+leant a c d r ha hc q e = e ∙ rw (self a ha, self c hc, q)
+
+-- src/rate.rt:81:9
+bend-of-requires : tie.Need-bend-of-requires
+bend-of-requires c κs = search needs
+
+-- src/rate.rt:82:24
+lean-requires : tie.Need-lean-requires
+lean-requires c κs =
+    let x = c .before .before .args in
+    let p = c .before .before .pre in
+    (rw (self (x .a) (p .0)) (p .0), rw (self (x .c) (p .2)) (p .2), below (toZ w32 (ofZ w32 (c .before .bend-of .result))) (c .if1 .taken))
+
+-- src/rate.rt:82:16
+clamp-8-requires : tie.Need-clamp-8-requires
+clamp-8-requires c κs = search needs
+
+-- src/rate.rt:77:1
+returns : tie.Need-returns
+returns c =
+    let x = c .before .before .before .before .args in
+    let p = c .before .before .before .before .pre in
+    let d = c .before .before .before .bend-of in
+    let l = c .before .lean in
+    let e = toZ-ofZ (sfits-of {w = w32} {z = d .result} (d .ok)) ∙ seen (x .a) (x .b) (x .c) (d .result) (p .0) (p .1) (p .2) (d .ensures .0) in
+    let q : l .result ≡ quotZ ((x .a -ℤ x .c) *ℤ pos 8) (bend (x .a) (x .b) (x .c)) =
+    leant (x .a) (x .c) (bend (x .a) (x .b) (x .c)) (l .result) (p .0) (p .2) e (l .ensures) in
+    sized (x .a) (x .b) (x .c) (
+    toZ-ofZ (sfits-of {w = w32} {z = c .clamp-8 .result} (c .clamp-8 .ok)) ∙ c .clamp-8 .ensures ∙
+    ap (clampZ (negsuc 7) (pos 8)) (toZ-ofZ (sfits-of {w = w32} {z = l .result} (l .ok)) ∙ q) ∙
+    sym (decided (x .a) (x .b) (x .c) _ e (c .before .before .if1 .taken))
+    )
+
+-- src/rate.rt:77:1
+returns-2 : tie.Need-returns-2
+returns-2 c =
+    let x = c .before .before .args in
+    let p = c .before .before .pre in
+    let d = c .before .bend-of in
+    sized (x .a) (x .b) (x .c) (sym (decided (x .a) (x .b) (x .c) _ (toZ-ofZ (sfits-of {w = w32} {z = d .result} (d .ok)) ∙ seen (x .a) (x .b) (x .c) (d .result) (p .0) (p .1) (p .2) (d .ensures .0)) (c .if1 .left)))
+
+pub delta-x16-spec : {M : Type 1} → statement M
+delta-x16-spec =
+    tie.close (tie.spec bend-of-requires lean-requires clamp-8-requires returns returns-2)

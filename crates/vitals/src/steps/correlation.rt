@@ -1,0 +1,165 @@
+// Sums of products of samples that are a lag apart, and what the columns' come to (vitals.rs, `estimate`).
+ghost use mathlib.Core.Path.{_≡_};
+ghost use mathlib.Core.Bool.{true};
+ghost use Prim.Native.Nat.{ℕ, _+_, _-_, _*_, _≤_, _<_};
+ghost use lib.ListN.{length, take, drop};
+ghost use lib.IntN.{pos, negsuc, natAbs, _+ℤ_};
+ghost use Rattle.num.specs.Sum.{dotZ};
+ghost use Rattle.num.specs.Clamp.{clampZ};
+ghost use Rattle.vitals.specs.Correlation as spec;
+ghost use Rattle.vitals.specs.Correlation.{energy, rhoOf, corrOf};
+ghost use Rattle.vitals.specs.Steps.{partOf, Summable, ZerosFrom, Padded, Within, Added, Joined};
+
+// ---- sums of 32 products, held in 32 bits
+
+fn product(a: &[i16], b: &[i16], k: usize) -> i32
+    requires { ⌜ (k < length (now a)) × (k < length (now b)) ⌝ }
+    ensures { λ r. ⌜ r ≡ partOf (now (a .entry)) (now (b .entry)) k 1 ⌝ }
+{
+    (a[k] as i32) * (b[k] as i32)
+}
+
+fn two(a: &[i16], b: &[i16], k: usize) -> i32
+    requires { ⌜ (k + 2 ≤ length (now a)) × (k + 2 ≤ length (now b)) × Summable (now a) (now b) ⌝ }
+    ensures { λ r. ⌜ r ≡ partOf (now (a .entry)) (now (b .entry)) k 2 ⌝ }
+{
+    product(a, b, k) + product(a, b, k + 1)
+}
+
+fn four(a: &[i16], b: &[i16], k: usize) -> i32
+    requires { ⌜ (k + 4 ≤ length (now a)) × (k + 4 ≤ length (now b)) × Summable (now a) (now b) ⌝ }
+    ensures { λ r. ⌜ r ≡ partOf (now (a .entry)) (now (b .entry)) k 4 ⌝ }
+{
+    two(a, b, k) + two(a, b, k + 2)
+}
+
+fn eight(a: &[i16], b: &[i16], k: usize) -> i32
+    requires { ⌜ (k + 8 ≤ length (now a)) × (k + 8 ≤ length (now b)) × Summable (now a) (now b) ⌝ }
+    ensures { λ r. ⌜ r ≡ partOf (now (a .entry)) (now (b .entry)) k 8 ⌝ }
+{
+    four(a, b, k) + four(a, b, k + 4)
+}
+
+fn sixteen(a: &[i16], b: &[i16], k: usize) -> i32
+    requires { ⌜ (k + 16 ≤ length (now a)) × (k + 16 ≤ length (now b)) × Summable (now a) (now b) ⌝ }
+    ensures { λ r. ⌜ r ≡ partOf (now (a .entry)) (now (b .entry)) k 16 ⌝ }
+{
+    eight(a, b, k) + eight(a, b, k + 8)
+}
+
+fn block(a: &[i16], b: &[i16], k: usize) -> i32
+    requires { ⌜ (k + 32 ≤ length (now a)) × (k + 32 ≤ length (now b)) × Summable (now a) (now b) ⌝ }
+    ensures { λ r. ⌜ r ≡ partOf (now (a .entry)) (now (b .entry)) k 32 ⌝ }
+{
+    sixteen(a, b, k) + sixteen(a, b, k + 16)
+}
+
+// The samples of a block of products.
+pub const BLOCK: usize = 32;
+
+// The sum of the first n products, in blocks: behind its first n samples `b` holds zeros.
+fn dot_blocks(a: &[i16], b: &[i16], n: usize) -> i32
+    requires { ⌜ (n + 32 ≤ length (now a)) × (n + 32 ≤ length (now b)) × Summable (now a) (now b) × ZerosFrom n (now b) ⌝ }
+    ensures { λ r. ⌜ r ≡ dotZ (take n (now (a .entry))) (now (b .entry)) ⌝ }
+{
+    let mut sum: i32 = 0;
+    let mut k: usize = 0;
+    while k < n {
+        sum = sum + block(a, b, k);
+        k = k + BLOCK;
+    }
+    sum
+}
+
+// ---- the correlation of a series of n samples, which zeros follow
+
+// The sum of the squares.
+fn energy_of(x: &[i16], n: usize) -> u64
+    requires { ⌜ (n ≤ 512) × Padded n (now x) ⌝ }
+    ensures { λ r. ⌜ (r ≡ energy (take n (now (x .entry)))) × (r ≤ 549755813888) ⌝ }
+{
+    num::sum_sq_i16(&x[0..n]) as u64
+}
+
+// The largest sum that fits 32 bits.
+const MOST: u64 = 2147483647;
+
+// The sum of the products of samples that are `lag` apart. Where the energy fits 32 bits every such sum does.
+fn lagged(x: &[i16], n: usize, lag: usize, energy: u64) -> i64
+    requires { ⌜ (n ≤ 512) × (lag < n) × Padded n (now x) × (energy ≡ spec.energy (take n (now x))) ⌝ }
+    ensures { λ r. ⌜ (r ≡ spec.lagged (take n (now (x .entry))) lag) × (natAbs r ≤ 549755813888) ⌝ }
+{
+    if energy <= MOST {
+        return dot_blocks(x, &x[lag..], n - lag) as i64;
+    }
+    num::dot_i16(&x[0..n - lag], &x[lag..])
+}
+
+// Between -2000 and 2000.
+fn clamp_2000(z: i64) -> i32
+    ensures { λ r. ⌜ r ≡ clampZ (negsuc 1999) (pos 2000) z ⌝ }
+{
+    if z < -2000 {
+        return -2000;
+    }
+    if z > 2000 {
+        return 2000;
+    }
+    z as i32
+}
+
+fn overlap_energy(energy: u64, terms: usize) -> u64
+    requires { ⌜ (1 ≤ energy) × (energy ≤ 549755813888) × (1 ≤ terms) × (terms ≤ 512) ⌝ }
+    ensures { λ q. ⌜ (q ≡ terms * energy) × (1 ≤ q) × (q ≤ 281474976710656) ⌝ }
+{
+    (terms as u64) * energy
+}
+
+// A sum of products over the energy of `n` samples, in permille, corrected for the overlap of n - lag.
+fn rho(r: i64, energy: u64, n: usize, lag: usize) -> i32
+    requires { ⌜ (natAbs r ≤ 549755813888) × (1 ≤ energy) × (energy ≤ 549755813888) × (lag < n) × (n ≤ 512) ⌝ }
+    ensures { λ q. ⌜ q ≡ rhoOf r energy n lag ⌝ }
+{
+    let overlap = overlap_energy(energy, n - lag);
+    clamp_2000(r * 1000 * (n as i64) / (overlap as i64))
+}
+
+// The correlation of the series with itself, `lag` samples apart.
+fn corr_at(x: &[i16], n: usize, lag: usize, energy: u64) -> i32
+    requires { ⌜ (n ≤ 512) × (lag < n) × Padded n (now x) × (energy ≡ spec.energy (take n (now x))) × (1 ≤ energy) × (energy ≤ 549755813888) ⌝ }
+    ensures { λ r. ⌜ (r ≡ corrOf (take n (now (x .entry))) lag) × (natAbs r ≤ 2000) ⌝ }
+{
+    rho(lagged(x, n, lag, energy), energy, n, lag)
+}
+
+// A sum and one more correlation.
+fn plus_corr(sum: i32, v: i32) -> i32
+    requires { ⌜ (natAbs sum ≤ 128000) × (natAbs v ≤ 2000) ⌝ }
+    ensures { λ r. ⌜ r ≡ sum +ℤ v ⌝ }
+{
+    sum + v
+}
+
+// The series' correlations added to the sums, for the lags from 1 to `hi` + 1; `used` columns are in the sums.
+fn add_lags(x: &[i16], n: usize, energy: u64, summed: &mut [i32], hi: usize, used: usize)
+    requires { ⌜ (n ≤ 512) × (hi + 1 < n) × Padded n (now x) × (energy ≡ spec.energy (take n (now x))) × (1 ≤ energy) × (energy ≤ 549755813888) ⌝ }
+    requires { ⌜ (hi + 2 ≤ length (now summed)) × (used < 64) × Within (2000 * used) (now summed) ⌝ }
+    ensures { λ r. ⌜ Added (take n (now (x .entry))) (hi + 1) (now (summed .entry)) (now (summed .exit)) × Within (2000 * (used + 1)) (now (summed .exit)) ⌝ }
+{
+    for lag in 1..hi + 2 {
+        summed[lag] = plus_corr(summed[lag], corr_at(x, n, lag, energy));
+    }
+}
+
+// The same of a series that may have no energy: it is then left out. How many columns are in the sums.
+pub fn add_series(x: &[i16], n: usize, summed: &mut [i32], hi: usize, used: usize) -> usize
+    requires { ⌜ (n ≤ 512) × (hi + 1 < n) × Padded n (now x) × (hi + 2 ≤ length (now summed)) × (used < 64) × Within (2000 * used) (now summed) ⌝ }
+    ensures { λ r. ⌜ Joined (take n (now (x .entry))) (hi + 1) used (now (summed .entry)) r (now (summed .exit)) ⌝ }
+{
+    let energy = energy_of(x, n);
+    if energy == 0 {
+        return used;
+    }
+    add_lags(x, n, energy, summed, hi, used);
+    used + 1
+}
