@@ -13,7 +13,7 @@ run:
 test:
 	bash .ci/run
 
-compare: oracle $(subjects:%=compare-%)
+compare: oracle $(subjects:%=compare-%) compare-room
 
 oracle:
 	cd oracle && cargo test --quiet --offline --release
@@ -21,6 +21,11 @@ oracle:
 compare-%:
 	rt staticlib $*_c
 	cd oracle && cargo run --quiet --offline --release -p compare_$*
+
+# the room exports its calls itself
+compare-room:
+	rt staticlib room
+	cd oracle && cargo run --quiet --offline --release -p compare_room
 
 bench:
 	@echo 'the benchmark of the room unit is not there yet; make compare prints the ratios of its parts.'; exit 1

@@ -1,4 +1,4 @@
-//! Build script of every driver: `compare_X` links libX_c.a, which `rt staticlib X_c` writes.
+//! Build script of every driver: `compare_X` links libX_c.a, which `rt staticlib X_c` writes, or libX.a where there is no such crate.
 
 use std::env;
 use std::path::PathBuf;
@@ -11,14 +11,16 @@ fn main() {
     let subject = driver
         .strip_prefix("compare_")
         .expect("a driver is named compare_X");
-    let library = format!("{subject}_c");
     let here = PathBuf::from(env::var_os("CARGO_MANIFEST_DIR").unwrap());
     let folder =
         env::var_os(VARIABLE).map_or_else(|| here.join("../../../target/staticlib"), PathBuf::from);
-    let file = folder.join(format!("lib{library}.a"));
-    let Ok(file) = file.canonicalize() else {
-        let file = file.display();
-        eprintln!("{file} is missing: run `rt staticlib {library}`, or set {VARIABLE}");
+    let names = [format!("{subject}_c"), subject.to_string()];
+    let Some((library, file)) = names.iter().find_map(|name| {
+        let file = folder.join(format!("lib{name}.a")).canonicalize().ok()?;
+        Some((name, file))
+    }) else {
+        let folder = folder.display();
+        eprintln!("{folder} has no library of {subject}: run `rt staticlib {subject}_c`, or set {VARIABLE}");
         exit(1);
     };
     println!(

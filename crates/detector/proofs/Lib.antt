@@ -2,3 +2,4 @@ pub mod Joined
 pub mod Pushes
 pub mod Calls
 pub mod Reset
+pub mod Even

@@ -1,6 +1,6 @@
 -- A worked case: twelve blocks of one column that repeat every four. Assumes nothing.
 use mathlib.Core.Path.{_≡_, refl}
-use mathlib.Core.Bool.{Bool, true, false}
+use mathlib.Core.Bool.{true, false}
 use mathlib.Core.List.{List, [], _∷_, _++_}
 use Prim.Native.Nat.{ℕ}
 use Rattle.num.specs.Lists.{build, keep, first}
@@ -12,7 +12,6 @@ use Rattle.vitals.specs.Correlation.{corrOf, curve}
 use Rattle.vitals.specs.Peak.{peakOr, highest}
 use Rattle.vitals.specs.declared.config.VitalsConfig.{VitalsConfig}
 use Rattle.estimator.specs.Estimate.{series, columnsOf, rhythmOf, estimateOf}
-use Rattle.estimator.specs.declared.Vitals.{Vitals}
 
 abbrev beat : List (List ℕ)
 beat = (100 ∷ []) ∷ (110 ∷ []) ∷ (100 ∷ []) ∷ (90 ∷ []) ∷ []

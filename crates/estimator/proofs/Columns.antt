@@ -1,13 +1,11 @@
 -- A column of the window as a series: what is read round the ring, and that its samples and those prepared have 16 bits. Assumes nothing.
-use mathlib.Core.Path.{_≡_, refl, sym, ap, _∙_}
-use mathlib.Core.Bool.{Bool, true, false, cond}
-use mathlib.Core.List.{List, [], _∷_, _++_, map}
-use Prim.Native.Nat.{ℕ, zero, suc, _+_, _-_, _*_, _≤_, _<_}
+use mathlib.Core.Path.{_≡_, sym, ap, _∙_}
+use mathlib.Core.List.{List, _++_, map}
+use Prim.Native.Nat.{ℕ, _+_, _-_, _≤_, _<_}
 use native.Mathlib.Decide.{decLt}
 use native.Mathlib.Omega.{arith}
 use borrow.Author.Tests.{lt-ltb, le-ltb}
-use lib.Dec.{ltb}
-use lib.ListN.{length, getD, take, drop, length-map, length-append, length-drop, List·getD-eq-default, List·getD-append}
+use lib.ListN.{length, getD, drop, length-map, length-append, length-drop, List·getD-eq-default, List·getD-append}
 use lib.Seq.{ext-getD, take-at, getD-drop, getD-append-add}
 use lib.IntN.{ℤ, pos, natAbs, _-ℤ_}
 use Rattle.num.specs.Wrap.{wrap16}

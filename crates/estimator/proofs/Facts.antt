@@ -1,14 +1,14 @@
 -- What the tests of settings and state stand for. Assumes nothing.
-use mathlib.Core.Path.{_≡_, refl, sym, _∙_}
-use mathlib.Core.Bool.{Bool, true, false, cond, _&&_}
+use mathlib.Core.Path.{_≡_}
+use mathlib.Core.Bool.{true}
 use mathlib.Core.List.{List}
-use Prim.Native.Nat.{ℕ, _+_, _*_, _≤_, _<_, max}
+use Prim.Native.Nat.{ℕ, _*_, _≤_, _<_}
 use native.Mathlib.Decide.{decLt}
 use native.Mathlib.Omega.{arith}
 use borrow.Author.Tests.{leb-true, lt-ltb, le-ltb}
 use lib.Dec.{leb, ltb, eqb}
 use lib.ListN.{getD}
-use Rattle.num.specs.Tests.{Tells, allBelow}
+use Rattle.num.specs.Tests.{Tells}
 use Rattle.num.proofs.Logic.{both}
 use Rattle.num.proofs.Tests.{tells-iff, tells-both, tells-le, tells-lt, tells-eq, tells-below}
 use Rattle.window.specs.Window.{columns}

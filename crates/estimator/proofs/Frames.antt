@@ -2,13 +2,13 @@
 use mathlib.Core.Path.{_≡_, refl, sym, ap, _∙_}
 use mathlib.Core.Bool.{Bool, true, false, cond}
 use mathlib.Core.List.{List, [], _∷_, map}
-use Prim.Native.Nat.{ℕ, zero, suc, _+_, _-_, _*_, _/_, _≤_, _<_, min, max}
+use Prim.Native.Nat.{ℕ, zero, suc, _+_, _-_, _*_, _/_, _≤_, _<_}
 use native.Mathlib.Nat.{mod-lt}
-use native.Mathlib.Decide.{ℕ-discrete, decLt}
+use native.Mathlib.Decide.{decLt}
 use native.Mathlib.Omega.{arith}
-use borrow.Author.Tests.{lt-ltb, le-ltb, eq-eqb, ne-eqb, eqb-true, leb-false}
-use lib.Dec.{eqb, ltb, leb}
-use lib.ListN.{length, take, drop, getD, set, replicate, length-take, length-replicate, getD-replicate, length-map, length-set, List·getD-eq-default}
+use borrow.Author.Tests.{lt-ltb, le-ltb, ne-eqb, eqb-true, leb-false}
+use lib.Dec.{eqb}
+use lib.ListN.{length, take, drop, getD, set, replicate, length-replicate, getD-replicate, length-map, List·getD-eq-default}
 use lib.Seq.{length-take-le, take-at, getD-take}
 use Rattle.num.specs.Lists.{plus}
 use Rattle.num.proofs.Logic.{never}
@@ -19,9 +19,8 @@ use Rattle.window.proofs.Rows.{length-cut}
 use Rattle.window.proofs.View.{window-push, window-none, length-window}
 use Rattle.vitals.specs.declared.config.VitalsConfig.{VitalsConfig}
 use Rattle.estimator.specs.Estimate.{estimateOf}
-use Rattle.estimator.specs.Estimator.{Rhythm, Step, restarted, startFor, withFrame, closed, orOne, dueAt, rested, judged, fed, pushFrame}
-use Rattle.estimator.specs.State.{rhythmAt, inRange, ringLength, restartedAt, begunAt, fedAt, closedAt, restedAt, judgedAt, begunTotals, fedTotals, rowsWith, progressAfter, totalsAfter, rowsAfter, judgedBy, Took}
-use Rattle.estimator.specs.declared.Answer.{Answer}
+use Rattle.estimator.specs.Estimator.{Rhythm, Step, restarted, startFor, withFrame, closed, orOne, dueAt, judged, fed, pushFrame}
+use Rattle.estimator.specs.State.{rhythmAt, ringLength, restartedAt, begunAt, fedAt, closedAt, restedAt, judgedAt, begunTotals, fedTotals, rowsWith, judgedBy, Took}
 use Rattle.estimator.specs.declared.Answer.the-variants.{NotDue, Due}
 use Rattle.estimator.specs.declared.Progress.{Progress}
 use Rattle.estimator.specs.declared.steps.Stepped.{Stepped}

@@ -1,6 +1,5 @@
 -- The columns' correlations as they are added, one column a turn. Assumes nothing.
 use mathlib.Core.Path.{_≡_, refl, sym, ap, _∙_}
-use mathlib.Core.Bool.{Bool, true, false}
 use mathlib.Core.List.{List, [], _∷_, _++_, map}
 use Prim.Native.Nat.{ℕ, zero, suc, _+_, _*_, _≤_, _<_}
 use native.Mathlib.Numerals.{add-one}
@@ -22,7 +21,7 @@ use Rattle.window.proofs.Ring.{length-ring-row}
 use Rattle.window.proofs.View.{window-width}
 use Rattle.vitals.specs.Series.{at, prepared}
 use Rattle.vitals.specs.Correlation.{energy, corrOf, rhythmic, curve}
-use Rattle.vitals.specs.Steps.{Within, Added, Joined}
+use Rattle.vitals.specs.Steps.{Within, Joined}
 use Rattle.estimator.specs.Estimate.{series, columnsOf}
 
 abs-zero : (z : ℤ) → natAbs z ≤ 0 → z ≡ pos 0

@@ -9,7 +9,6 @@ use Rattle.window.specs.Window.{columns}
 use Rattle.vitals.specs.declared.config.VitalsConfig.{VitalsConfig}
 use Rattle.estimator.specs.State.{legal, inRange, ringLength, restartedAt, Took}
 use Rattle.estimator.specs.declared.VitalsEstimator.{VitalsEstimator}
-use Rattle.estimator.specs.declared.Answer.{Answer}
 use Rattle.estimator.specs.declared.Answer.the-variants.{NotDue}
 use Rattle.estimator.specs.declared.Begun.{Begun}
 use Rattle.estimator.specs.declared.Pushed.{Pushed}

@@ -1,6 +1,6 @@
 -- The estimate, a function of the window's blocks alone (vitals.rs, `estimate`). Assumes nothing.
-use mathlib.Core.Bool.{Bool, false, cond}
-use mathlib.Core.List.{List, [], map}
+use mathlib.Core.Bool.{false, cond}
+use mathlib.Core.List.{List, map}
 use Prim.Native.Nat.{ℕ, _+_, _-_, min}
 use lib.Dec.{eqb, ltb, leb}
 use lib.ListN.{length}

@@ -11,9 +11,8 @@ use Rattle.num.specs.Tests.{allBelow}
 use Rattle.window.specs.Window.{columns, ringRows, windowOf, overwrite, nextSlot, filledAfter}
 use Rattle.vitals.specs.Band.{usable}
 use Rattle.vitals.specs.declared.config.VitalsConfig.{VitalsConfig}
-use Rattle.estimator.specs.Estimator.{Rhythm, Step, orOne, dueAt, pushFrame}
+use Rattle.estimator.specs.Estimator.{Rhythm, orOne, dueAt, pushFrame}
 use Rattle.estimator.specs.Estimate.{estimateOf}
-use Rattle.estimator.specs.declared.Answer.{Answer}
 use Rattle.estimator.specs.declared.Answer.the-variants.{NotDue, Due}
 use Rattle.estimator.specs.declared.Progress.{Progress}
 use Rattle.estimator.specs.declared.steps.Stepped.{Stepped}

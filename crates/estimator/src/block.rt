@@ -16,8 +16,8 @@ fn clear(acc: &mut [u32; COLUMNS])
     requires { ⌜ length (now acc) ≡ columns ⌝ }
     ensures { λ _. ⌜ now (acc .exit) ≡ replicate columns 0 ⌝ }
 {
-    for sc in 0..COLUMNS {
-        acc[sc] = 0;
+    for k in 0..COLUMNS {
+        acc[k] = 0;
     }
 }
 

@@ -1,7 +1,6 @@
 -- The bench table of document 01, proved in one go by computation about the definitions. Assumes nothing.
 use mathlib.Core.Path.{_≡_, refl}
-use mathlib.Core.List.{List, map}
-use lib.IntN.{ℤ}
+use mathlib.Core.List.{map}
 use Rattle.num.specs.Root.{root, rootIn}
 use Rattle.num.specs.Sum.{total}
 use Rattle.num.specs.Wrap.{signed8, wrap16}

@@ -1,6 +1,6 @@
 -- The bench cases that document 01 marks with a star, one row each: what the definitions give, and what the paper says. `proofs/Bench.antt` proves them in one go.
 -- Assumes nothing.
-use mathlib.Core.List.{List, [], _∷_, _++_, map}
+use mathlib.Core.List.{List, [], _∷_, map}
 use Prim.Native.Nat.{ℕ}
 use lib.IntN.{ℤ, pos, negsuc}
 use lib.ListN.{getD, take, replicate}

@@ -1,12 +1,9 @@
 -- Worked cases of document 01. Assumes nothing.
 use mathlib.Core.Path.{_≡_, refl}
-use mathlib.Core.List.{List, [], _∷_}
-use Prim.Native.Nat.{ℕ}
-use lib.IntN.{ℤ, pos, negsuc}
+use mathlib.Core.List.{[], _∷_}
+use lib.IntN.{pos, negsuc}
 use Rattle.num.specs.Lists.{build, first}
 use Rattle.num.specs.Sum.{sumZ}
-use Rattle.vitals.specs.declared.band.Band.{Band}
-use Rattle.vitals.specs.declared.band.Covered.{Covered}
 use Rattle.vitals.specs.Band.{usable, lagsAnswer, breathingAt, heartAt}
 use Rattle.vitals.specs.Series.{highpassed}
 use Rattle.vitals.specs.Peak.{bestLag, peakOr, highest}

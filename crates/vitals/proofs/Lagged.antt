@@ -1,7 +1,7 @@
 -- A series of n samples with zeros behind it: sums of products of samples that are a lag apart, and their size. Assumes nothing.
-use mathlib.Core.Path.{_≡_, refl, sym, ap, _∙_}
+use mathlib.Core.Path.{_≡_, sym, ap, _∙_}
 use mathlib.Core.List.{List}
-use Prim.Native.Nat.{ℕ, _+_, _-_, _*_, _≤_, _<_}
+use Prim.Native.Nat.{ℕ, _+_, _-_, _*_, _≤_}
 use native.Mathlib.Omega.{arith}
 use lib.ListN.{length, take, drop, length-take, length-drop}
 use lib.Seq.{take-all, getD-drop}
@@ -9,10 +9,9 @@ use lib.IntN.{ℤ, pos, natAbs, _*ℤ_}
 use lib.Signed.{quotZ}
 use Rattle.num.specs.Sum.{dotZ}
 use Rattle.num.proofs.Clamp.{clamp-size}
-use Rattle.num.proofs.Sum.{dot-first}
 use Rattle.num.proofs.Dot.{dot-cut, dot-front, dot-self-size, part-size}
 use Rattle.vitals.specs.Correlation.{energy, lagged, corrOf}
-use Rattle.vitals.specs.Steps.{Summable, ZerosFrom, Padded, partOf}
+use Rattle.vitals.specs.Steps.{Summable, ZerosFrom, Padded}
 use Rattle.vitals.proofs.Windows.{samples-take}
 
 -- `&x[lag..]`

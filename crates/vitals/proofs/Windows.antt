@@ -1,10 +1,10 @@
 -- Windows of a series: the size of their sums, a window that moves on, and the window around a sample. Assumes nothing.
-use mathlib.Core.Path.{_≡_, refl, sym, ap, _∙_}
+use mathlib.Core.Path.{_≡_, sym, ap, _∙_}
 use mathlib.Core.List.{List}
 use Prim.Native.Nat.{ℕ, _+_, _-_, _*_, _≤_, _<_, min}
 use native.Mathlib.Decide.{decLe, decLt}
 use native.Mathlib.Omega.{arith}
-use lib.ListN.{length, getD, take, drop, length-take, List·getD-eq-default}
+use lib.ListN.{length, take, drop, length-take, List·getD-eq-default}
 use lib.Seq.{slice, length-slice, getD-take, getD-drop, take-all}
 use lib.IntN.{ℤ, pos, natAbs, _+ℤ_, _-ℤ_}
 use Rattle.num.specs.Sum.{sumZ}

@@ -1,7 +1,6 @@
 -- The correlation of a series with itself, and the sum of the columns' (vitals.rs, `estimate`). Assumes nothing.
 use Prim.Native.Nat.{ℕ, suc, _+_, _-_, _*_}
-use mathlib.Core.Bool.{Bool}
-use mathlib.Core.List.{List, [], _∷_, map}
+use mathlib.Core.List.{List, _∷_, map}
 use lib.Dec.{ltb}
 use lib.ListN.{length, drop}
 use lib.IntN.{ℤ, pos, negsuc, natAbs, _*ℤ_}

@@ -1,8 +1,8 @@
 -- What the contracts of the inner steps say. Assumes nothing.
 use mathlib.Core.Path.{_≡_}
 use mathlib.Core.List.{List}
-use Prim.Native.Nat.{ℕ, _+_, _-_, _*_, _/_, _^_, _≤_, _<_, min}
-use lib.ListN.{length, getD, take, drop}
+use Prim.Native.Nat.{ℕ, _+_, _-_, _*_, _/_, _^_, _≤_, min}
+use lib.ListN.{length, take, drop}
 use lib.Seq.{slice}
 use lib.IntN.{ℤ, pos, natAbs, _+ℤ_}
 use Rattle.num.specs.Sum.{sumZ, dotZ}

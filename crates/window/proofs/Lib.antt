@@ -8,3 +8,4 @@ pub mod Write
 pub mod Check
 pub mod Mean
 pub mod Fixed
+pub mod Pushed

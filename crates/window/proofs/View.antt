@@ -130,7 +130,7 @@ module _ {A : Type 0} (add : A → A → A) (none : A) (exchange : (a b c : A) �
 abbrev pub Long : ℕ → List (List ℕ) → Type 0
 Long c rows = (i : ℕ) → i < length rows → length (getD rows i []) ≡ c
 
-long-drop : (c k : ℕ) (rows : List (List ℕ)) → Long c rows → Long c (drop k rows)
+pub long-drop : (c k : ℕ) (rows : List (List ℕ)) → Long c rows → Long c (drop k rows)
 long-drop c k rows long i h = rw (getD-drop k rows i []) (long (k + i) (omega (arith, length-drop k rows)))
 
 long-take : (c k : ℕ) (rows : List (List ℕ)) → Long c rows → Long c (take k rows)
@@ -138,7 +138,7 @@ long-take c k rows long i h =
     let both : i < min k (length rows) = rw length-take at h in
     rw (getD-take k rows i [] (omega arith)) (long i (omega arith))
 
-long-append : (c : ℕ) (xs ys : List (List ℕ)) → Long c xs → Long c ys → Long c (xs ++ ys)
+pub long-append : (c : ℕ) (xs ys : List (List ℕ)) → Long c xs → Long c ys → Long c (xs ++ ys)
 long-append c [] ys lx ly i h = ly i h
 long-append c (x ∷ xs) ys lx ly zero h = lx 0 (omega arith)
 long-append c (x ∷ xs) ys lx ly (suc i) h = long-append c xs ys (λ j k. lx (suc j) (omega arith)) ly i (omega arith)

@@ -1,5 +1,5 @@
 -- `refusal_of` meets its contract. Assumes nothing.
-use mathlib.Core.Path.{_≡_, sym, _∙_}
+use mathlib.Core.Path.{sym, _∙_}
 use Prim.Native.Nat.{_*_}
 use native.Mathlib.Omega.{arith}
 use borrow.Author.Tests.{eq-eqb, ne-eqb}
@@ -8,40 +8,28 @@ use Rattle.estimator.proofs.Facts.{legal-facts}
 use borrow.Author.Needs.{needs}
 use Rattle.estimator.proofs.refusal_of.Statement.{statement}
 use Rattle.estimator.proofs.refusal_of.Tie as tie
-use Rattle.estimator.proofs.refusal_of.Reads as reads
-use Rattle.estimator.proofs.refusal_of.Lts as lts
-use Rattle.estimator.proofs.steps.is_legal.Reads as is-legal-reads
-use Rattle.estimator.proofs.steps.is_valid.Reads as is-valid-reads
 
--- src/lib.rt:71:8
 is-legal-requires : tie.Need-is-legal-requires
 is-legal-requires c κs = search needs
 
--- src/lib.rt:72:31
 mul-if2 : tie.Need-mul-if2
 mul-if2 c = omega (arith, legal-facts (c .before .before .before .args .config) (c .before .before .before .args .n) (sym (c .before .is-legal .ensures) ∙ c .if1 .taken))
 
--- src/lib.rt:72:26
 mul-if2-2 : tie.Need-mul-if2-2
 mul-if2-2 c = omega (arith, legal-facts (c .before .before .before .args .config) (c .before .before .before .args .n) (sym (c .before .is-legal .ensures) ∙ c .if1 .taken))
 
--- src/lib.rt:75:16
 is-valid-requires : tie.Need-is-valid-requires
 is-valid-requires c κs = search needs
 
--- src/lib.rt:76:17
 returns : tie.Need-returns
 returns c = rw (sym (c .before .before .before .before .before .before .before .is-legal .ensures) ∙ c .before .before .before .before .before .before .if1 .taken, eq-eqb (length (c .before .before .before .before .before .before .before .before .before .args .rows .now)) (2 * (c .before .before .before .before .before .before .before .before .before .args .n * 64)) (c .before .before .before .before .before .if2 .taken), sym (c .before .is-valid .ensures) ∙ c .if3 .taken)
 
--- src/lib.rt:78:13
 returns-2 : tie.Need-returns-2
 returns-2 c = rw (sym (c .before .before .before .before .before .before .before .is-legal .ensures) ∙ c .before .before .before .before .before .before .if1 .taken, eq-eqb (length (c .before .before .before .before .before .before .before .before .before .args .rows .now)) (2 * (c .before .before .before .before .before .before .before .before .before .args .n * 64)) (c .before .before .before .before .before .if2 .taken), sym (c .before .is-valid .ensures) ∙ c .if3 .left)
 
--- src/lib.rt:80:9
 returns-3 : tie.Need-returns-3
 returns-3 c = rw (sym (c .before .before .is-legal .ensures) ∙ c .before .if1 .taken, ne-eqb (length (c .before .before .before .before .args .rows .now)) (2 * (c .before .before .before .before .args .n * 64)) (c .if2 .left))
 
--- src/lib.rt:68:1
 returns-4 : tie.Need-returns-4
 returns-4 c = rw (sym (c .before .is-legal .ensures) ∙ c .if1 .left)
 

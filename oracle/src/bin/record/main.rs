@@ -8,6 +8,7 @@ mod fingerprint;
 mod phase;
 mod phase_detector;
 mod presence;
+mod vitals;
 
 use std::path::PathBuf;
 use std::process::exit;
@@ -31,6 +32,7 @@ fn record(subject: &str) -> Option<(&'static str, Recorded)> {
         "phase" => ("phase_cases", phase::cases().into()),
         "phase_detector" => ("phase_detector_cases", phase_detector::cases().into()),
         "presence" => ("presence_cases", presence::cases().into()),
+        "vitals" => ("vitals_cases", vitals::cases().into()),
         "roomlines" => ("roomlines", roomlines()),
         _ => return None,
     })

@@ -1,5 +1,5 @@
 -- `VitalsEstimator::new` meets its contract. Assumes nothing.
-use mathlib.Core.Path.{_≡_, sym, _∙_}
+use mathlib.Core.Path.{sym, _∙_}
 use Prim.Native.Nat.{_*_}
 use native.Mathlib.Omega.{arith}
 use borrow.Author.Tests.{eq-eqb, ne-eqb}
@@ -8,36 +8,25 @@ use Rattle.estimator.proofs.Facts.{legal-facts}
 use borrow.Author.Needs.{needs}
 use Rattle.estimator.proofs.VitalsEstimator.new.Statement.{statement}
 use Rattle.estimator.proofs.VitalsEstimator.new.Tie as tie
-use Rattle.estimator.proofs.VitalsEstimator.new.Reads as reads
-use Rattle.estimator.proofs.VitalsEstimator.new.Lts as lts
-use Rattle.estimator.proofs.new_state.Reads as new-state-reads
-use Rattle.estimator.proofs.steps.is_legal.Reads as is-legal-reads
 
--- src/lib.rt:90:13
 new-state-requires : tie.Need-new-state-requires
 new-state-requires c κs = search needs
 
--- src/lib.rt:91:12
 is-legal-requires : tie.Need-is-legal-requires
 is-legal-requires c κs = search needs
 
--- src/lib.rt:92:35
 mul-if2 : tie.Need-mul-if2
 mul-if2 c = omega (arith, legal-facts (c .before .before .before .before .args .config) (c .before .before .before .before .args .n) (sym (c .before .is-legal .ensures) ∙ c .if1 .taken))
 
--- src/lib.rt:92:30
 mul-if2-2 : tie.Need-mul-if2-2
 mul-if2-2 c = omega (arith, legal-facts (c .before .before .before .before .args .config) (c .before .before .before .before .args .n) (sym (c .before .is-legal .ensures) ∙ c .if1 .taken))
 
--- src/lib.rt:93:17
 returns : tie.Need-returns
 returns c = rw (sym (c .before .before .is-legal .ensures) ∙ c .before .if1 .taken, eq-eqb (length (c .before .before .before .before .before .args .rows .now)) (2 * (c .before .before .before .before .before .args .n * 64)) (c .if2 .taken), c .before .before .before .new-state .ensures)
 
--- src/lib.rt:95:13
 returns-2 : tie.Need-returns-2
 returns-2 c = rw (sym (c .before .before .is-legal .ensures) ∙ c .before .if1 .taken, ne-eqb (length (c .before .before .before .before .before .args .rows .now)) (2 * (c .before .before .before .before .before .args .n * 64)) (c .if2 .left), c .before .before .before .new-state .ensures)
 
--- src/lib.rt:87:5
 returns-3 : tie.Need-returns-3
 returns-3 c = rw (sym (c .before .is-legal .ensures) ∙ c .if1 .left, c .before .before .new-state .ensures)
 

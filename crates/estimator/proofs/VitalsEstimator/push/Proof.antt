@@ -1,6 +1,5 @@
 -- `VitalsEstimator::push` meets its contract: refused, or the step. Assumes nothing.
-use mathlib.Core.Path.{_≡_, refl, sym, ap, _∙_}
-use Prim.Native.Nat.{ℕ, _≤_, _<_}
+use mathlib.Core.Path.{_≡_, refl, sym, _∙_}
 use native.Mathlib.Omega.{arith}
 use borrow.Author.Tests.{eq-eqb, ne-eqb, le-leb, lt-leb}
 use lib.ListN.{length}
@@ -10,10 +9,6 @@ use Rattle.estimator.proofs.Refusals.{served}
 use borrow.Author.Needs.{needs}
 use Rattle.estimator.proofs.VitalsEstimator.push.Statement.{statement}
 use Rattle.estimator.proofs.VitalsEstimator.push.Tie as tie
-use Rattle.estimator.proofs.VitalsEstimator.push.Reads as reads
-use Rattle.estimator.proofs.VitalsEstimator.push.Lts as lts
-use Rattle.estimator.proofs.refusal_of.Reads as refusal-of-reads
-use Rattle.estimator.proofs.steps.push.Reads as push-reads
 
 long : (c : tie.Start) → length (c .args .self .acc) ≡ columns
 long c = search needs
@@ -21,11 +16,9 @@ long c = search needs
 wide : (c : tie.Start) → length (c .args .t5) ≡ columns
 wide c = search needs
 
--- src/lib.rt:112:13
 refusal-of-requires : tie.Need-refusal-of-requires
 refusal-of-requires c κs = search needs
 
--- src/lib.rt:117:21
 slice-aggregate-push : tie.Need-slice-aggregate-push
 slice-aggregate-push c = sym (wide (c .before .before .before .before .before .before .before .before .before .before))
 
@@ -35,11 +28,9 @@ push-requires c κs =
     let ok = served (start .args .config) (start .args .n) (start .args .self) (start .args .rows .now) (sym (c .before .before .before .before .before .before .before .refusal-of .ensures) ∙ c .before .before .before .before .before .before .if1 .taken) in
     ((ok .0, ok .1, ok .2, c .before .before .before .before .before .if2 .taken), (long start, omega (arith, wide start)))
 
--- src/lib.rt:120:17
 same-length : tie.Need-same-length
 same-length c = search needs
 
--- src/lib.rt:120:17
 returns : tie.Need-returns
 returns c =
     let none : resetRefusal (c .before .before .before .before .before .before .before .before .before .before .before .before .before .before .args .config) (c .before .before .before .before .before .before .before .before .before .before .before .before .before .before .args .n) (c .before .before .before .before .before .before .before .before .before .before .before .before .before .before .args .self) (c .before .before .before .before .before .before .before .before .before .before .before .before .before .before .args .rows .now) ≡ 0 = sym (c .before .before .before .before .before .before .before .before .before .before .before .refusal-of .ensures) ∙ c .before .before .before .before .before .before .before .before .before .before .if1 .taken in
@@ -47,11 +38,9 @@ returns c =
     rw (eq-eqb (resetRefusal (c .before .before .before .before .before .before .before .before .before .before .before .before .before .before .args .config) (c .before .before .before .before .before .before .before .before .before .before .before .before .before .before .args .n) (c .before .before .before .before .before .before .before .before .before .before .before .before .before .before .args .self) (c .before .before .before .before .before .before .before .before .before .before .before .before .before .before .args .rows .now)) 0 none, le-leb (c .before .before .before .before .before .before .before .before .before .before .before .before .before .before .args .count) columns (c .before .before .before .before .before .before .before .before .before .if2 .taken)) in
     record { refusal = sym e; refused = λ f. absurd (f e); taken = λ _. c .before .before .before .push .ensures }
 
--- src/lib.rt:129:13
 same-length-2 : tie.Need-same-length-2
 same-length-2 c = search needs
 
--- src/lib.rt:129:13
 returns-2 : tie.Need-returns-2
 returns-2 c =
     let none : resetRefusal (c .before .before .before .before .before .args .config) (c .before .before .before .before .before .args .n) (c .before .before .before .before .before .args .self) (c .before .before .before .before .before .args .rows .now) ≡ 0 = sym (c .before .before .refusal-of .ensures) ∙ c .before .if1 .taken in
@@ -59,11 +48,9 @@ returns-2 c =
     rw (eq-eqb (resetRefusal (c .before .before .before .before .before .args .config) (c .before .before .before .before .before .args .n) (c .before .before .before .before .before .args .self) (c .before .before .before .before .before .args .rows .now)) 0 none, lt-leb (c .before .before .before .before .before .args .count) columns (c .if2 .left)) in
     record { refusal = sym e; refused = λ f. record { state = refl; answer = refl; memory = refl }; taken = λ z. absurd (omega (arith, e, z)) }
 
--- src/lib.rt:101:5
 same-length-3 : tie.Need-same-length-3
 same-length-3 c = search needs
 
--- src/lib.rt:101:5
 returns-3 : tie.Need-returns-3
 returns-3 c =
     let some : resetRefusal (c .before .before .before .before .args .config) (c .before .before .before .before .args .n) (c .before .before .before .before .args .self) (c .before .before .before .before .args .rows .now) ≡ 0 → ⊥ = λ z. c .if1 .left (c .before .refusal-of .ensures ∙ z) in

@@ -1,30 +1,22 @@
 -- `VitalsEstimator::reset` meets its contract. Assumes nothing.
-use mathlib.Core.Path.{_≡_, sym, _∙_}
+use mathlib.Core.Path.{sym, _∙_}
 use borrow.Author.Tests.{eq-eqb, ne-eqb}
 use Rattle.estimator.specs.Calls.{resetRefusal}
 use borrow.Author.Needs.{needs}
 use Rattle.estimator.proofs.VitalsEstimator.reset.Statement.{statement}
 use Rattle.estimator.proofs.VitalsEstimator.reset.Tie as tie
-use Rattle.estimator.proofs.VitalsEstimator.reset.Reads as reads
-use Rattle.estimator.proofs.VitalsEstimator.reset.Lts as lts
-use Rattle.estimator.proofs.new_state.Reads as new-state-reads
-use Rattle.estimator.proofs.refusal_of.Reads as refusal-of-reads
 
--- src/lib.rt:146:13
 refusal-of-requires : tie.Need-refusal-of-requires
 refusal-of-requires c κs = search needs
 
--- src/lib.rt:148:17
 new-state-requires : tie.Need-new-state-requires
 new-state-requires c κs = search needs
 
--- src/lib.rt:149:13
 returns : tie.Need-returns
 returns c =
     let a = c .before .before .before .before .args in
     rw (c .before .before .refusal-of .ensures, eq-eqb (resetRefusal (a .config) (a .n) (a .self) (a .rows .now)) 0 (sym (c .before .before .refusal-of .ensures) ∙ c .before .if1 .taken), c .new-state .ensures)
 
--- src/lib.rt:143:5
 returns-2 : tie.Need-returns-2
 returns-2 c =
     let a = c .before .before .before .args in

@@ -1,17 +1,9 @@
 -- `add_frame` meets its contract: the first sc amplitudes are added. Assumes nothing.
-use mathlib.Core.Path.{_≡_, refl, sym, ap, _∙_}
-use mathlib.Core.List.{List}
-use Prim.Native.Nat.{ℕ, _+_, _-_, _≤_, _<_}
+use Prim.Native.Nat.{_-_}
 use native.Mathlib.Omega.{arith}
-use borrow.Author.Needs.{needs}
-use lib.ListN.{length, getD}
 use Rattle.num.proofs.Totals.{Adding, none-added, as-long, untouched, add-turn, all-added}
-use Rattle.window.specs.Window.{columns}
 use Rattle.estimator.proofs.block.add_frame.Statement.{statement}
 use Rattle.estimator.proofs.block.add_frame.Tie as tie
-use Rattle.estimator.proofs.block.add_frame.Reads as reads
-use Rattle.estimator.proofs.block.add_frame.Lts as lts
-use Rattle.estimator.proofs.block.add_amplitude.Reads as add-amplitude-reads
 
 abbrev Inv-loop : tie.InvT-loop
 Inv-loop acc₀ amplitude count sc₀ acc sc =
@@ -20,57 +12,45 @@ Inv-loop acc₀ amplitude count sc₀ acc sc =
 abbrev μ-loop : tie.MeasureT-loop
 μ-loop acc₀ amplitude count sc₀ acc sc = count - sc
 
--- src/block.rt:49:5
 loop-holds : tie.Need-loop-holds Inv-loop μ-loop
 loop-holds c = none-added (c .before .args .count) (c .before .args .acc .now) (c .before .args .amplitude .now)
 
--- src/block.rt:50:33
 mul-add-amplitude : tie.Need-mul-add-amplitude Inv-loop μ-loop
 mul-add-amplitude c = omega arith
 
--- src/block.rt:50:33
 element-copy-out-add-amplitude : tie.Need-element-copy-out-add-amplitude Inv-loop μ-loop
 element-copy-out-add-amplitude c = let h = as-long _ _ _ _ _ (c .before .loop .inv) in omega (arith, c .before .before .before .pre .1)
 
--- src/block.rt:50:42
 mul-add-amplitude-2 : tie.Need-mul-add-amplitude-2 Inv-loop μ-loop
 mul-add-amplitude-2 c = omega arith
 
--- src/block.rt:50:42
 shared-slice-read-add-amplitude : tie.Need-shared-slice-read-add-amplitude Inv-loop μ-loop
 shared-slice-read-add-amplitude c = omega (arith, c .before .before .before .before .before .pre .2)
 
--- src/block.rt:50:19
 add-amplitude-requires : tie.Need-add-amplitude-requires Inv-loop μ-loop
 add-amplitude-requires c κs =
     let l = c .before .before .before .loop in
     let start = c .before .before .before .before .before in
     omega (arith, untouched _ _ _ _ _ (l .inv), start .pre .3 (l .sc) (omega arith))
 
--- src/block.rt:50:9
 mul-acc : tie.Need-mul-acc Inv-loop μ-loop
 mul-acc c = omega arith
 
--- src/block.rt:50:9
 element-write-acc : tie.Need-element-write-acc Inv-loop μ-loop
 element-write-acc c = let h = as-long _ _ _ _ _ (c .before .before .before .before .loop .inv) in omega (arith, c .before .before .before .before .before .before .pre .1)
 
--- src/block.rt:49:9
 add-sc : tie.Need-add-sc Inv-loop μ-loop
 add-sc c = omega arith
 
--- src/block.rt:49:5
 loop-less : tie.Need-loop-less Inv-loop μ-loop
 loop-less c = omega arith
 
--- src/block.rt:49:5
 loop-again : tie.Need-loop-again Inv-loop μ-loop
 loop-again c =
     let l = c .before .before .before .before .loop in
     let p = c .before .before .before .before .before .before .pre in
     add-turn _ _ _ _ _ (l .inv) (c .add-amplitude .result) (omega arith) (omega (arith, p .0, p .1)) (p .2) (c .add-amplitude .ensures)
 
--- src/block.rt:45:1
 returns : tie.Need-returns Inv-loop μ-loop
 returns c = (all-added _ _ _ _ _ (c .before .loop .inv) (c .loop-test .left), λ k h. omega (arith, c .before .before .shared-slice-known .given k))
 

@@ -1,27 +1,19 @@
 -- `begin` meets its contract. Assumes nothing.
-use mathlib.Core.Path.{_≡_, refl}
+use mathlib.Core.Path.{refl}
 use borrow.Author.Tests.{eq-eqb, ne-eqb}
 use borrow.Author.Needs.{needs}
 use Rattle.estimator.proofs.block.begin.Statement.{statement}
 use Rattle.estimator.proofs.block.begin.Tie as tie
-use Rattle.estimator.proofs.block.begin.Reads as reads
-use Rattle.estimator.proofs.block.begin.Lts as lts
-use Rattle.estimator.proofs.block.clear.Reads as clear-reads
-use Rattle.estimator.proofs.steps.restarted.Reads as restarted-reads
 
--- src/block.rt:30:9
 returns : tie.Need-returns
 returns c = rw (eq-eqb (c .before .before .args .progress .count) (c .before .before .args .count) (c .if1 .taken)) (refl, refl)
 
--- src/block.rt:32:5
 clear-requires : tie.Need-clear-requires
 clear-requires c κs = search needs
 
--- src/block.rt:33:5
 restarted-requires : tie.Need-restarted-requires
 restarted-requires c κs = search needs
 
--- src/block.rt:25:1
 returns-2 : tie.Need-returns-2
 returns-2 c =
     let a = c .before .before .before .before .before .args in

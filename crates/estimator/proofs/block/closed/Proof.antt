@@ -1,31 +1,24 @@
 -- `closed` meets its contract. Assumes nothing.
 use mathlib.Core.Logic.{⊎-elim}
-use mathlib.Core.Path.{_≡_, sym}
-use Prim.Native.Nat.{ℕ, _+_, _%_, _≤_, _<_, min}
+use mathlib.Core.Path.{_≡_}
+use Prim.Native.Nat.{_+_, min}
 use native.Mathlib.Omega.{arith}
 use borrow.Author.Needs.{needs}
 use Rattle.estimator.proofs.block.closed.Statement.{statement}
 use Rattle.estimator.proofs.block.closed.Tie as tie
-use Rattle.estimator.proofs.block.closed.Reads as reads
-use Rattle.estimator.proofs.block.closed.Lts as lts
 
--- src/block.rt:91:33
 add-t9 : tie.Need-add-t9
 add-t9 c = search needs
 
--- src/block.rt:92:16
 add-t12 : tie.Need-add-t12
 add-t12 c = search needs
 
--- src/block.rt:92:15
 rem-t14 : tie.Need-rem-t14
 rem-t14 c = search needs
 
--- src/block.rt:94:23
 add-t16 : tie.Need-add-t16
 add-t16 c = search needs
 
--- src/block.rt:84:1
 returns : tie.Need-returns
 returns c =
     let a = c .before .args in

@@ -1,23 +1,16 @@
 -- `mean_of` meets its contract: a mean of numbers of 16 bits has 16 bits. Assumes nothing.
-use Prim.Native.Nat.{_*_, _/_, _≤_}
 use native.Mathlib.Nat.{div-le-of-le-mul}
 use native.Mathlib.Omega.{arith}
 use borrow.Author.Needs.{needs}
 use Rattle.estimator.proofs.block.mean_of.Statement.{statement}
 use Rattle.estimator.proofs.block.mean_of.Tie as tie
-use Rattle.estimator.proofs.block.mean_of.Reads as reads
-use Rattle.estimator.proofs.block.mean_of.Lts as lts
-use Rattle.vitals.proofs.steps.divide.divide.Reads as divide-reads
 
--- src/block.rt:67:5
 divide-requires : tie.Need-divide-requires
 divide-requires c κs = search needs
 
--- src/block.rt:67:5
 cast-result : tie.Need-cast-result
 cast-result c = record { fits = omega (arith, c .divide .ensures, div-le-of-le-mul (c .before .args .d .by) (c .before .pre .1)) }
 
--- src/block.rt:63:1
 returns : tie.Need-returns
 returns c = search needs
 

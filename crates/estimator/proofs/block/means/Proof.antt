@@ -1,7 +1,7 @@
 -- `means` meets its contract: the first sc means are in. Assumes nothing.
-use mathlib.Core.Path.{_≡_, refl, sym, ap, _∙_}
+use mathlib.Core.Path.{_≡_, sym, ap, _∙_}
 use mathlib.Core.List.{List, map}
-use Prim.Native.Nat.{ℕ, _+_, _-_, _*_, _/_, _≤_, _<_}
+use Prim.Native.Nat.{ℕ, _-_, _/_, _≤_, _<_}
 use native.Mathlib.Omega.{arith}
 use borrow.Author.Needs.{needs}
 use borrow.Author.Count.{below-none}
@@ -10,14 +10,10 @@ use lib.Seq.{ext-getD}
 use Rattle.num.proofs.Lists.{map-at}
 use Rattle.num.proofs.Stored.{one-more}
 use Rattle.window.specs.Window.{columns}
-use Rattle.vitals.specs.Steps.{Exact, divisorOf}
 use Rattle.vitals.specs.declared.steps.divide.Divisor.{Divisor}
+use Rattle.vitals.proofs.Facts.{exact}
 use Rattle.estimator.proofs.block.means.Statement.{statement}
 use Rattle.estimator.proofs.block.means.Tie as tie
-use Rattle.estimator.proofs.block.means.Reads as reads
-use Rattle.estimator.proofs.block.means.Lts as lts
-use Rattle.estimator.proofs.block.mean_of.Reads as mean-of-reads
-use Rattle.vitals.proofs.steps.divide.divisor_by.Reads as divisor-by-reads
 
 abbrev Inv-loop : tie.InvT-loop
 Inv-loop acc frames d out₀ sc₀ out sc =
@@ -26,52 +22,39 @@ Inv-loop acc frames d out₀ sc₀ out sc =
 abbrev μ-loop : tie.MeasureT-loop
 μ-loop acc frames d out₀ sc₀ out sc = columns - sc
 
--- src/block.rt:75:9
 full : (c : tie.Start Inv-loop μ-loop) → length (c .args .acc .now) ≡ columns
 full c = c .pre .2
-
-exact : (d : Divisor) (n : ℕ) → d ≡ divisorOf n → 1 ≤ n → n ≤ 32767 → Exact d
-exact d n e some few = rw e (record { some = some; few = few; factor = refl })
 
 divisor-by-requires : tie.Need-divisor-by-requires Inv-loop μ-loop
 divisor-by-requires c κs = let p = c .pre in (p .0, p .1)
 
--- src/block.rt:77:5
 loop-holds : tie.Need-loop-holds Inv-loop μ-loop
 loop-holds c = (omega arith, search needs, below-none _)
 
--- src/block.rt:78:27
 mul-mean-of : tie.Need-mul-mean-of Inv-loop μ-loop
 mul-mean-of c = omega arith
 
--- src/block.rt:78:27
 element-copy-out-mean-of : tie.Need-element-copy-out-mean-of Inv-loop μ-loop
 element-copy-out-mean-of c = omega (arith, full (c .before .before .before))
 
--- src/block.rt:78:19
 mean-of-requires : tie.Need-mean-of-requires Inv-loop μ-loop
 mean-of-requires c κs =
     let start = c .before .before .before .before in
     let d = exact (c .before .before .before .divisor-by .result) (start .args .frames) (c .before .before .before .divisor-by .ensures) (start .pre .0) (start .pre .1) in
     (d, rw (ap (λ (d : Divisor). d .by) (c .before .before .before .divisor-by .ensures)) (start .pre .3 (c .before .before .loop .sc) (omega arith)))
 
--- src/block.rt:78:9
 mul-out : tie.Need-mul-out Inv-loop μ-loop
 mul-out c = omega arith
 
--- src/block.rt:78:9
 array-write-out : tie.Need-array-write-out Inv-loop μ-loop
 array-write-out c = omega (arith, c .before .before .before .loop .inv .1)
 
--- src/block.rt:77:9
 add-sc : tie.Need-add-sc Inv-loop μ-loop
 add-sc c = omega arith
 
--- src/block.rt:77:5
 loop-less : tie.Need-loop-less Inv-loop μ-loop
 loop-less c = omega arith
 
--- src/block.rt:77:5
 loop-again : tie.Need-loop-again Inv-loop μ-loop
 loop-again c =
     let l = c .before .before .before .loop in
@@ -82,7 +65,6 @@ loop-again c =
           (c .mean-of .ensures ∙ ap (λ (d : Divisor). getD (start .args .acc .now) (l .sc) 0 / d .by) (c .before .before .before .before .divisor-by .ensures)),
     )
 
--- src/block.rt:71:1
 returns : tie.Need-returns Inv-loop μ-loop
 returns c =
     let l = c .before .loop in

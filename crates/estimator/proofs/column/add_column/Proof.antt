@@ -1,9 +1,7 @@
 -- `add_column` meets its contract. Assumes nothing.
-use mathlib.Core.Path.{_≡_, refl, sym, ap, _∙_, subst}
+use mathlib.Core.Path.{_≡_, sym, ap, _∙_, subst}
 use mathlib.Core.List.{List}
-use Prim.Native.Nat.{ℕ, _+_, _≤_, _<_}
-use native.Mathlib.Omega.{arith}
-use lib.ListN.{length, take}
+use Prim.Native.Nat.{ℕ, _+_}
 use lib.IntN.{ℤ}
 use Rattle.window.specs.Window.{columns, ringRows, windowOf}
 use Rattle.vitals.specs.Series.{centred, highpassed, prepared}
@@ -13,45 +11,31 @@ use Rattle.estimator.proofs.Columns.{prepared-plain, prepared-passed}
 use borrow.Author.Needs.{needs}
 use Rattle.estimator.proofs.column.add_column.Statement.{statement}
 use Rattle.estimator.proofs.column.add_column.Tie as tie
-use Rattle.estimator.proofs.column.add_column.Reads as reads
-use Rattle.estimator.proofs.column.add_column.Lts as lts
-use Rattle.estimator.proofs.column.centre_front.Reads as centre-front-reads
-use Rattle.estimator.proofs.column.highpass_front.Reads as highpass-front-reads
-use Rattle.estimator.proofs.column.read_front.Reads as read-front-reads
-use Rattle.vitals.proofs.steps.correlation.add_series.Reads as add-series-reads
 
 joined-as : (x y : List ℤ) (top used : ℕ) (s : List ℤ) (r : ℕ) (t : List ℤ) → x ≡ y → Joined x top used s r t → Joined y top used s r t
 joined-as x y top used s r t e h = subst (λ (z : List ℤ). Joined z top used s r t) e h
 
--- src/column.rt:88:5
 read-front-requires : tie.Need-read-front-requires
 read-front-requires c κs = search needs
 
--- src/column.rt:89:5
 centre-front-requires : tie.Need-centre-front-requires
 centre-front-requires c κs = search needs
 
--- src/column.rt:91:9
 highpass-front-requires : tie.Need-highpass-front-requires
 highpass-front-requires c κs = search needs
 
--- src/column.rt:92:9
 add-series-requires : tie.Need-add-series-requires
 add-series-requires c κs = search needs
 
--- src/column.rt:92:9
 same-length : tie.Need-same-length
 same-length c = search needs
 
--- src/column.rt:92:9
 same-length-2 : tie.Need-same-length-2
 same-length-2 c = search needs
 
--- src/column.rt:92:9
 same-length-3 : tie.Need-same-length-3
 same-length-3 c = search needs
 
--- src/column.rt:92:9
 returns : tie.Need-returns
 returns c =
     let a = c .before .before .before .before .before .before .before .before .before .before .before .before .before .before .before .before .before .args in
@@ -65,23 +49,18 @@ returns c =
       mid .padded,
     )
 
--- src/column.rt:94:5
 add-series-requires-2 : tie.Need-add-series-requires-2
 add-series-requires-2 c κs = search needs
 
--- src/column.rt:71:1
 same-length-4 : tie.Need-same-length-4
 same-length-4 c = search needs
 
--- src/column.rt:71:1
 same-length-5 : tie.Need-same-length-5
 same-length-5 c = search needs
 
--- src/column.rt:71:1
 same-length-6 : tie.Need-same-length-6
 same-length-6 c = search needs
 
--- src/column.rt:71:1
 returns-2 : tie.Need-returns-2
 returns-2 c =
     let a = c .before .before .before .before .before .before .before .before .before .before .before .before .before .args in

@@ -1,9 +1,8 @@
 -- `add_columns` meets its contract: the first sc columns are in the sums. Assumes nothing.
-use mathlib.Core.Path.{_≡_, refl, sym, ap, _∙_}
+use mathlib.Core.Path.{_≡_, sym, ap, _∙_}
 use mathlib.Core.List.{List}
-use Prim.Native.Nat.{ℕ, _+_, _-_, _*_, _≤_, _<_}
+use Prim.Native.Nat.{_+_, _-_, _≤_}
 use native.Mathlib.Omega.{arith}
-use borrow.Author.Needs.{needs}
 use lib.ListN.{length}
 use lib.IntN.{ℤ}
 use Rattle.window.specs.Window.{columns, ringRows, windowOf}
@@ -12,9 +11,6 @@ use Rattle.vitals.specs.Steps.{Padded}
 use Rattle.estimator.proofs.Summing.{Summing, soFar, begun, turn, finish, all-columns}
 use Rattle.estimator.proofs.column.add_columns.Statement.{statement}
 use Rattle.estimator.proofs.column.add_columns.Tie as tie
-use Rattle.estimator.proofs.column.add_columns.Reads as reads
-use Rattle.estimator.proofs.column.add_columns.Lts as lts
-use Rattle.estimator.proofs.column.add_column.Reads as add-column-reads
 
 abbrev Inv-loop : tie.InvT-loop
 Inv-loop rows n next count m a₀ b₀ summed₀ hi used₀ sc₀ a b summed used sc =
@@ -24,13 +20,11 @@ Inv-loop rows n next count m a₀ b₀ summed₀ hi used₀ sc₀ a b summed use
 abbrev μ-loop : tie.MeasureT-loop
 μ-loop rows n next count m a₀ b₀ summed₀ hi used₀ sc₀ a b summed used sc = count - sc
 
--- src/column.rt:114:5
 loop-holds : tie.Need-loop-holds Inv-loop μ-loop
 loop-holds c =
     let p = c .before .pre in
     (omega arith, p .1 .1, p .0 .5, p .0 .6, begun _ _ _ _ (p .1 .2))
 
--- src/column.rt:115:9
 add-column-requires : tie.Need-add-column-requires Inv-loop μ-loop
 add-column-requires c κs =
     let p = c .before .before .before .before .before .before .pre in
@@ -38,34 +32,27 @@ add-column-requires c κs =
     let i = l .inv .4 in
     ((p .0 .1, p .0 .2, p .0 .3, omega arith, p .0 .4, l .inv .2, l .inv .3), (p .1 .0, omega (arith, l .inv .1), omega (arith, i .most), i .size))
 
--- src/column.rt:114:9
 add-sc : tie.Need-add-sc Inv-loop μ-loop
 add-sc c = omega arith
 
--- src/column.rt:114:5
 loop-less : tie.Need-loop-less Inv-loop μ-loop
 loop-less c = omega arith
 
--- src/column.rt:114:5
 loop-again : tie.Need-loop-again Inv-loop μ-loop
 loop-again c =
     let l = c .before .before .before .before .before .before .before .before .loop in
     let r = c .before .before .before .add-column in
     (omega arith, omega (arith, l .inv .1), r .ensures .1, r .ensures .2, turn _ _ _ (l .sc) (l .used) (r .result) (l .summed) _ (l .inv .4) (r .ensures .0))
 
--- src/column.rt:98:1
 same-length : tie.Need-same-length Inv-loop μ-loop
 same-length c = c .before .loop .inv .2 .long ∙ sym (c .before .before .before .pre .0 .5 .long)
 
--- src/column.rt:98:1
 same-length-2 : tie.Need-same-length-2 Inv-loop μ-loop
 same-length-2 c = c .before .loop .inv .3 .long ∙ sym (c .before .before .before .pre .0 .6 .long)
 
--- src/column.rt:98:1
 same-length-3 : tie.Need-same-length-3 Inv-loop μ-loop
 same-length-3 c = c .before .loop .inv .1 ∙ sym (c .before .before .before .pre .1 .1)
 
--- src/column.rt:98:1
 returns : tie.Need-returns Inv-loop μ-loop
 returns c =
     let start = c .before .before .before in

@@ -1,6 +1,5 @@
 -- `centre_front` meets its contract. Assumes nothing.
-use mathlib.Core.Path.{_≡_, refl, sym, ap, _∙_}
-use Prim.Native.Nat.{ℕ, _+_, _≤_, _<_}
+use mathlib.Core.Path.{_≡_, sym, ap, _∙_}
 use native.Mathlib.Omega.{arith}
 use lib.ListN.{length, take}
 use lib.Seq.{length-take-le}
@@ -10,27 +9,20 @@ use Rattle.estimator.proofs.Columns.{length-centred, centred-samples, f
 use borrow.Author.Needs.{needs}
 use Rattle.estimator.proofs.column.centre_front.Statement.{statement}
 use Rattle.estimator.proofs.column.centre_front.Tie as tie
-use Rattle.estimator.proofs.column.centre_front.Reads as reads
-use Rattle.estimator.proofs.column.centre_front.Lts as lts
-use Rattle.vitals.proofs.steps.series.centre.Reads as centre-reads
 
--- src/column.rt:59:35
 slice-aggregate-centre : tie.Need-slice-aggregate-centre
 slice-aggregate-centre c =
     let start = c .before in
     sym (length-take-le (start .args .n) (start .args .x .now) (omega (arith, start .pre .2 .long)))
 
--- src/column.rt:59:44
 slice-relend-prefix-centre : tie.Need-slice-relend-prefix-centre
 slice-relend-prefix-centre c = search needs
 
--- src/column.rt:59:44
 slice-aggregate-centre-2 : tie.Need-slice-aggregate-centre-2
 slice-aggregate-centre-2 c =
     let start = c .before .before in
     sym (length-take-le (start .args .n) (start .args .out .now) (omega (arith, start .pre .3 .long)))
 
--- src/column.rt:59:5
 centre-requires : tie.Need-centre-requires
 centre-requires c κs =
     let start = c .before .before in
@@ -39,11 +31,9 @@ centre-requires c κs =
     let lo : length (take (a .n) (a .out .now)) ≡ a .n = length-take-le (a .n) (a .out .now) (omega (arith, start .pre .3 .long)) in
     (omega arith, omega arith, lo ∙ sym lx, samples-take (a .n) (a .x .now) (start .pre .2 .samples))
 
--- src/column.rt:55:1
 same-length : tie.Need-same-length
 same-length c = search needs
 
--- src/column.rt:55:1
 returns : tie.Need-returns
 returns c =
     let start = c .before .before .before .before in

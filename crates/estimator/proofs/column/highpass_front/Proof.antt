@@ -1,6 +1,5 @@
 -- `highpass_front` meets its contract. Assumes nothing.
-use mathlib.Core.Path.{_≡_, refl, sym, ap, _∙_}
-use Prim.Native.Nat.{ℕ, _+_, _≤_, _<_}
+use mathlib.Core.Path.{_≡_, sym, ap, _∙_}
 use native.Mathlib.Omega.{arith}
 use lib.ListN.{length, take}
 use lib.Seq.{length-take-le}
@@ -10,27 +9,20 @@ use Rattle.estimator.proofs.Columns.{length-highpassed, highpassed-samp
 use borrow.Author.Needs.{needs}
 use Rattle.estimator.proofs.column.highpass_front.Statement.{statement}
 use Rattle.estimator.proofs.column.highpass_front.Tie as tie
-use Rattle.estimator.proofs.column.highpass_front.Reads as reads
-use Rattle.estimator.proofs.column.highpass_front.Lts as lts
-use Rattle.vitals.proofs.steps.series.highpass.Reads as highpass-reads
 
--- src/column.rt:67:37
 slice-aggregate-highpass : tie.Need-slice-aggregate-highpass
 slice-aggregate-highpass c =
     let start = c .before in
     sym (length-take-le (start .args .n) (start .args .x .now) (omega (arith, start .pre .1 .long)))
 
--- src/column.rt:67:46
 slice-relend-prefix-highpass : tie.Need-slice-relend-prefix-highpass
 slice-relend-prefix-highpass c = search needs
 
--- src/column.rt:67:46
 slice-aggregate-highpass-2 : tie.Need-slice-aggregate-highpass-2
 slice-aggregate-highpass-2 c =
     let start = c .before .before in
     sym (length-take-le (start .args .n) (start .args .out .now) (omega (arith, start .pre .2 .long)))
 
--- src/column.rt:67:5
 highpass-requires : tie.Need-highpass-requires
 highpass-requires c κs =
     let start = c .before .before in
@@ -39,11 +31,9 @@ highpass-requires c κs =
     let lo : length (take (a .n) (a .out .now)) ≡ a .n = length-take-le (a .n) (a .out .now) (omega (arith, start .pre .2 .long)) in
     (omega arith, lo ∙ sym lx, samples-take (a .n) (a .x .now) (start .pre .1 .samples))
 
--- src/column.rt:63:1
 same-length : tie.Need-same-length
 same-length c = search needs
 
--- src/column.rt:63:1
 returns : tie.Need-returns
 returns c =
     let start = c .before .before .before .before in

@@ -1,10 +1,9 @@
 -- `read_column` meets its contract: the two parts are the slots in turn. Assumes nothing.
-use mathlib.Core.Path.{_≡_, refl, sym, ap, _∙_}
+use mathlib.Core.Path.{_≡_, sym, ap, _∙_}
 use mathlib.Core.List.{List}
 use Prim.Native.Nat.{ℕ, _+_, _-_, _≤_, _<_}
 use native.Mathlib.Decide.{decLt}
 use native.Mathlib.Omega.{arith}
-use lib.ListN.{length}
 use lib.IntN.{ℤ}
 use Rattle.window.specs.Window.{turn}
 use Rattle.vitals.specs.Series.{at}
@@ -13,9 +12,6 @@ use Rattle.estimator.proofs.Columns.{column-read, turn-low, turn-high}
 use borrow.Author.Needs.{needs}
 use Rattle.estimator.proofs.column.read_column.Statement.{statement}
 use Rattle.estimator.proofs.column.read_column.Tie as tie
-use Rattle.estimator.proofs.column.read_column.Reads as reads
-use Rattle.estimator.proofs.column.read_column.Lts as lts
-use Rattle.estimator.proofs.column.read_slots.Reads as read-slots-reads
 
 -- the slots from `next` on, and behind them those from the first
 round : (n next sc : ℕ) (bytes : List ℕ) (x y z : List ℤ) → next ≤ n → Read bytes next (n - next) sc 0 x y → Read bytes 0 next sc (n - next) y z
@@ -29,23 +25,18 @@ round n next sc bytes x y z h one two k l (no g) =
     let f : 0 + j ≡ next + k - n = omega arith in
     ap (at z) e ∙ two .entries j (omega arith) ∙ ap (λ (slot : ℕ). entryOf bytes slot sc) (f ∙ sym (turn-high (next + k) n (omega arith)))
 
--- src/column.rt:41:17
 sub-older : tie.Need-sub-older
 sub-older c = search needs
 
--- src/column.rt:42:5
 read-slots-requires : tie.Need-read-slots-requires
 read-slots-requires c κs = search needs
 
--- src/column.rt:43:5
 read-slots-requires-2 : tie.Need-read-slots-requires-2
 read-slots-requires-2 c κs = search needs
 
--- src/column.rt:37:1
 same-length : tie.Need-same-length
 same-length c = search needs
 
--- src/column.rt:37:1
 returns : tie.Need-returns
 returns c =
     let start = c .before .before .before .before .before .before .before in

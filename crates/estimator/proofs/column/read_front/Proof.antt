@@ -1,10 +1,8 @@
 -- `read_front` meets its contract. Assumes nothing.
-use mathlib.Core.Path.{_≡_, refl, sym, ap, _∙_}
-use Prim.Native.Nat.{ℕ, _+_, _≤_, _<_}
+use mathlib.Core.Path.{_≡_, sym, ap, _∙_}
 use native.Mathlib.Omega.{arith}
-use lib.ListN.{length, take}
+use lib.ListN.{length}
 use lib.Seq.{length-take-le}
-use lib.ListN.{length-take}
 use Rattle.window.specs.Window.{columns, ringRows, windowOf}
 use Rattle.window.specs.Words.{words}
 use Rattle.window.proofs.Rows.{length-cut}
@@ -14,32 +12,24 @@ use Rattle.estimator.proofs.Columns.{length-series, series-samples, fro
 use borrow.Author.Needs.{needs}
 use Rattle.estimator.proofs.column.read_front.Statement.{statement}
 use Rattle.estimator.proofs.column.read_front.Tie as tie
-use Rattle.estimator.proofs.column.read_front.Reads as reads
-use Rattle.estimator.proofs.column.read_front.Lts as lts
-use Rattle.estimator.proofs.column.read_column.Reads as read-column-reads
 
--- src/column.rt:51:43
 slice-relend-prefix-read-column : tie.Need-slice-relend-prefix-read-column
 slice-relend-prefix-read-column c = search needs
 
--- src/column.rt:51:43
 slice-aggregate-read-column : tie.Need-slice-aggregate-read-column
 slice-aggregate-read-column c =
     let start = c .before .before in
     sym (length-take-le (start .args .n) (start .args .x .now) (omega (arith, start .pre .5 .long)))
 
--- src/column.rt:51:5
 read-column-requires : tie.Need-read-column-requires
 read-column-requires c κs =
     let p = c .before .before .pre in
     let a = c .before .before .args in
     (p .0, p .1, p .2, length-take-le (a .n) (a .x .now) (omega (arith, p .5 .long)), p .3, p .4)
 
--- src/column.rt:47:1
 same-length : tie.Need-same-length
 same-length c = search needs
 
--- src/column.rt:47:1
 returns : tie.Need-returns
 returns c =
     let start = c .before .before .before .before in

@@ -1,22 +1,17 @@
 -- `read_slots` meets its contract: the first k entries are in. Assumes nothing.
-use mathlib.Core.Path.{_≡_, refl, sym, ap, _∙_}
-use Prim.Native.Nat.{ℕ, _+_, _-_, _*_, _≤_, _<_}
-use native.Mathlib.Nat.{mul-le-mul-right}
+use mathlib.Core.Path.{_≡_, refl, _∙_}
+use Prim.Native.Nat.{ℕ, _+_, _-_, _≤_, _<_}
 use native.Mathlib.Omega.{arith}
-use borrow.Author.Needs.{needs, sfits-of}
+use borrow.Author.Needs.{sfits-of}
 use borrow.Author.Count.{below-none, below-more}
 use lib.ListN.{length, length-set}
 use lib.Seq.{getD-set-same, getD-set-other}
-use lib.IntN.{ℤ, pos}
+use lib.IntN.{pos}
 use mir.Facts.{toZ-ofZ}
-use Rattle.window.specs.Window.{columns}
 use Rattle.vitals.specs.Series as samples
 use Rattle.estimator.specs.Steps.{entryOf}
 use Rattle.estimator.proofs.column.read_slots.Statement.{statement}
 use Rattle.estimator.proofs.column.read_slots.Tie as tie
-use Rattle.estimator.proofs.column.read_slots.Reads as reads
-use Rattle.estimator.proofs.column.read_slots.Lts as lts
-use Rattle.estimator.proofs.column.signed_entry.Reads as signed-entry-reads
 
 abbrev Inv-loop : tie.InvT-loop
 Inv-loop rows first many sc out₀ at k₀ out k =
@@ -26,50 +21,39 @@ Inv-loop rows first many sc out₀ at k₀ out k =
 abbrev μ-loop : tie.MeasureT-loop
 μ-loop rows first many sc out₀ at k₀ out k = many - k
 
--- src/column.rt:31:5
 loop-holds : tie.Need-loop-holds Inv-loop μ-loop
 loop-holds c = (omega arith, refl, below-none _, λ j h. refl)
 
--- src/column.rt:32:43
 add-signed-entry : tie.Need-add-signed-entry Inv-loop μ-loop
 add-signed-entry c = omega arith
 
--- src/column.rt:32:42
 mul-signed-entry : tie.Need-mul-signed-entry Inv-loop μ-loop
 mul-signed-entry c = omega arith
 
--- src/column.rt:32:42
 add-signed-entry-2 : tie.Need-add-signed-entry-2 Inv-loop μ-loop
 add-signed-entry-2 c = omega arith
 
--- src/column.rt:32:23
 signed-entry-requires : tie.Need-signed-entry-requires Inv-loop μ-loop
 signed-entry-requires c κs =
     let a = c .before .before .before .args in
     let h : c .before .loop .k + 1 ≤ a .many = omega arith in
     omega arith
 
--- src/column.rt:32:13
 add-t13 : tie.Need-add-t13 Inv-loop μ-loop
 add-t13 c = omega arith
 
--- src/column.rt:32:9
 mul-t14 : tie.Need-mul-t14 Inv-loop μ-loop
 mul-t14 c = omega arith
 
--- src/column.rt:32:9
 slice-set-from-out : tie.Need-slice-set-from-out Inv-loop μ-loop
 slice-set-from-out c = omega arith
 
--- src/column.rt:31:9
 add-k : tie.Need-add-k Inv-loop μ-loop
 add-k c = omega arith
 
--- src/column.rt:31:5
 loop-less : tie.Need-loop-less Inv-loop μ-loop
 loop-less c = omega arith
 
--- src/column.rt:31:5
 loop-again : tie.Need-loop-again Inv-loop μ-loop
 loop-again c =
     let l = c .before .before .loop in
@@ -81,11 +65,9 @@ loop-again c =
       λ j h. getD-set-other (l .out) (a .at + l .k) j _ (pos 0) (λ e. omega arith) ∙ l .inv .3 j h,
     )
 
--- src/column.rt:27:1
 same-length : tie.Need-same-length Inv-loop μ-loop
 same-length c = omega arith
 
--- src/column.rt:27:1
 returns : tie.Need-returns Inv-loop μ-loop
 returns c =
     let l = c .before .loop in

@@ -1,33 +1,24 @@
 -- `signed_entry` meets its contract. Assumes nothing.
 use native.Mathlib.Omega.{arith}
 use mir.Syntax.{w64}
-use mathlib.Core.Path.{_≡_, ap, _∙_}
-use Prim.Native.Nat.{ℕ}
-use lib.IntN.{ℤ, pos}
+use mathlib.Core.Path.{ap, _∙_}
+use lib.IntN.{pos}
 use mir.Facts.{toZ-ofZ, toZ-pos}
 use borrow.Author.Needs.{needs, sfits-of}
 use Rattle.num.specs.Wrap.{wrap16}
 use borrow.Author.Needs.{needs}
 use Rattle.estimator.proofs.column.signed_entry.Statement.{statement}
 use Rattle.estimator.proofs.column.signed_entry.Tie as tie
-use Rattle.estimator.proofs.column.signed_entry.Reads as reads
-use Rattle.estimator.proofs.column.signed_entry.Lts as lts
-use Rattle.num.proofs.wrap_i16.Reads as wrap-i16-reads
-use Rattle.window.proofs.steps.entry.Reads as entry-reads
 
--- src/column.rt:29:19
 entry-requires : tie.Need-entry-requires
 entry-requires c κs = search needs
 
--- src/column.rt:29:19
 cast-wrap-i16 : tie.Need-cast-wrap-i16
 cast-wrap-i16 c = search needs
 
--- src/column.rt:29:5
 wrap-i16-requires : tie.Need-wrap-i16-requires
 wrap-i16-requires c κs = search needs
 
--- src/column.rt:25:1
 returns : tie.Need-returns
 returns c =
     let r = c .before .entry in

@@ -1,10 +1,8 @@
 -- `estimate` meets its contract. Assumes nothing.
-use mathlib.Core.Path.{_≡_, refl, sym, ap, _∙_}
-use mathlib.Core.List.{List}
-use Prim.Native.Nat.{ℕ, _+_, _-_, _*_, _≤_, _<_, min, max}
+use mathlib.Core.Path.{_≡_, ap, _∙_}
+use Prim.Native.Nat.{ℕ, _+_, _-_, _≤_, min}
 use native.Mathlib.Omega.{arith}
-use lib.ListN.{length, take, replicate, length-take, length-replicate}
-use lib.IntN.{ℤ, pos, natAbs}
+use lib.ListN.{length, length-take, length-replicate}
 use Rattle.window.specs.Window.{columns, ringRows, windowOf}
 use Rattle.vitals.specs.Band.{lagsOf}
 use Rattle.vitals.specs.declared.band.Lags.{Lags}
@@ -14,30 +12,19 @@ use Rattle.estimator.proofs.Whole.{estimate-none, estimate-wide, estima
 use borrow.Author.Needs.{needs}
 use Rattle.estimator.proofs.estimate.estimate.Statement.{statement}
 use Rattle.estimator.proofs.estimate.estimate.Tie as tie
-use Rattle.estimator.proofs.estimate.estimate.Reads as reads
-use Rattle.estimator.proofs.estimate.estimate.Lts as lts
-use Rattle.estimator.proofs.estimate.empty.Reads as empty-reads
-use Rattle.estimator.proofs.estimate.over_columns.Reads as over-columns-reads
-use Rattle.estimator.proofs.estimate.smaller.Reads as smaller-reads
-use Rattle.vitals.proofs.steps.lags.Reads as lags-reads
 
--- src/estimate.rt:116:9
 lags-requires : tie.Need-lags-requires
 lags-requires c κs = search needs
 
--- src/estimate.rt:118:31
 sub-smaller : tie.Need-sub-smaller
 sub-smaller c = search needs
 
--- src/estimate.rt:118:9
 smaller-requires : tie.Need-smaller-requires
 smaller-requires c κs = search needs
 
--- src/estimate.rt:120:9
 empty-requires : tie.Need-empty-requires
 empty-requires c κs = search needs
 
--- src/estimate.rt:120:9
 returns : tie.Need-returns
 returns c =
     let start = c .before .before .before .before .before .before in
@@ -49,15 +36,12 @@ returns c =
     let hi : c .before .before .smaller .result ≡ longest (a .config) (a .n) = c .before .before .smaller .ensures ∙ ap (λ (l : Lags). min (l .hi) (a .n - 2)) e in
     c .empty .ensures ∙ estimate-none (a .config) (a .time) (a .n) w long (rw (← hi, ← lo) (c .before .if1 .taken))
 
--- src/estimate.rt:122:19
 add-if2 : tie.Need-add-if2
 add-if2 c = search needs
 
--- src/estimate.rt:123:9
 empty-requires-2 : tie.Need-empty-requires-2
 empty-requires-2 c κs = search needs
 
--- src/estimate.rt:123:9
 returns-2 : tie.Need-returns-2
 returns-2 c =
     let start = c .before .before .before .before .before .before .before in
@@ -69,43 +53,33 @@ returns-2 c =
     let hi : c .before .before .before .smaller .result ≡ longest (a .config) (a .n) = c .before .before .before .smaller .ensures ∙ ap (λ (l : Lags). min (l .hi) (a .n - 2)) e in
     c .empty2 .ensures ∙ estimate-wide (a .config) (a .time) (a .n) w long (rw (← hi, ← lo) (c .before .before .if1 .left)) (rw (← hi) (c .before .if2 .taken))
 
--- src/estimate.rt:137:18
 add-a : tie.Need-add-a
 add-a c = search needs
 
--- src/estimate.rt:137:9
 array-borrow-prefix-a : tie.Need-array-borrow-prefix-a
 array-borrow-prefix-a c = search needs
 
--- src/estimate.rt:137:9
 slice-aggregate-over-columns : tie.Need-slice-aggregate-over-columns
 slice-aggregate-over-columns c = simp (length-take, length-replicate) (omega arith)
 
--- src/estimate.rt:138:18
 add-b : tie.Need-add-b
 add-b c = search needs
 
--- src/estimate.rt:138:9
 array-borrow-prefix-b : tie.Need-array-borrow-prefix-b
 array-borrow-prefix-b c = search needs
 
--- src/estimate.rt:138:9
 slice-aggregate-over-columns-2 : tie.Need-slice-aggregate-over-columns-2
 slice-aggregate-over-columns-2 c = simp (length-take, length-replicate) (omega arith)
 
--- src/estimate.rt:139:23
 add-summed : tie.Need-add-summed
 add-summed c = search needs
 
--- src/estimate.rt:139:9
 array-borrow-prefix-summed : tie.Need-array-borrow-prefix-summed
 array-borrow-prefix-summed c = search needs
 
--- src/estimate.rt:139:9
 slice-aggregate-over-columns-3 : tie.Need-slice-aggregate-over-columns-3
 slice-aggregate-over-columns-3 c = simp (length-take, length-replicate) (omega arith)
 
--- src/estimate.rt:128:5
 over-columns-requires : tie.Need-over-columns-requires
 over-columns-requires c κs =
     let start = c .before .before .before .before .before .before .before .before .before in
@@ -121,7 +95,6 @@ over-columns-requires c κs =
       (omega arith, omega arith, omega arith, simp (length-take, length-replicate) (omega arith), λ k. rw (zero-part k 129 (c .before .before .before .before .before .smaller .result + 2)) (omega arith), fast),
     )
 
--- src/estimate.rt:104:1
 returns-3 : tie.Need-returns-3
 returns-3 c =
     let start = c .before .before .before .before .before .before .before .before .before .before .before .before .before in

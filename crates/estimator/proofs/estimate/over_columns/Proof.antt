@@ -1,10 +1,9 @@
 -- `over_columns` meets its contract. Assumes nothing.
-use mathlib.Core.Path.{_≡_, refl, sym, ap, _∙_}
+use mathlib.Core.Path.{sym, ap, _∙_}
 use mathlib.Core.List.{List}
-use Prim.Native.Nat.{ℕ, _+_, _*_, _≤_, _<_}
+use Prim.Native.Nat.{ℕ}
 use native.Mathlib.Omega.{arith}
-use lib.ListN.{length}
-use lib.IntN.{ℤ, natAbs}
+use lib.IntN.{ℤ}
 use Rattle.window.specs.Window.{columns, ringRows, windowOf}
 use Rattle.vitals.specs.Correlation.{curve}
 use Rattle.vitals.specs.Peak.{bestLag}
@@ -13,63 +12,46 @@ use Rattle.estimator.proofs.Whole.{rhythm-none, rhythm-some}
 use borrow.Author.Needs.{needs}
 use Rattle.estimator.proofs.estimate.over_columns.Statement.{statement}
 use Rattle.estimator.proofs.estimate.over_columns.Tie as tie
-use Rattle.estimator.proofs.estimate.over_columns.Reads as reads
-use Rattle.estimator.proofs.estimate.over_columns.Lts as lts
-use Rattle.estimator.proofs.column.add_columns.Reads as add-columns-reads
-use Rattle.estimator.proofs.estimate.empty.Reads as empty-reads
-use Rattle.estimator.proofs.estimate.read_off.Reads as read-off-reads
 
--- src/estimate.rt:89:13
 cast-m : tie.Need-cast-m
 cast-m c = search needs
 
--- src/estimate.rt:90:9
 add-columns-requires : tie.Need-add-columns-requires
 add-columns-requires c κs = search needs
 
--- src/estimate.rt:92:9
 empty-requires : tie.Need-empty-requires
 empty-requires c κs = search needs
 
--- src/estimate.rt:92:9
 same-length : tie.Need-same-length
 same-length c = search needs
 
--- src/estimate.rt:92:9
 same-length-2 : tie.Need-same-length-2
 same-length-2 c = search needs
 
--- src/estimate.rt:92:9
 same-length-3 : tie.Need-same-length-3
 same-length-3 c = search needs
 
--- src/estimate.rt:92:9
 returns : tie.Need-returns
 returns c =
     let a = c .before .before .before .before .before .before .before .before .before .before .before .args in
     let xs = columnsOf (a .config .highpass) (windowOf (a .next) (a .n) (a .count) (ringRows (a .n) columns (a .rows .now))) in
     c .empty .ensures ∙ rhythm-none (a .config) (a .time) (a .lo) (a .hi) xs (sym (c .before .before .before .before .before .add-columns .ensures .0) ∙ c .before .if1 .taken)
 
--- src/estimate.rt:94:5
 read-off-requires : tie.Need-read-off-requires
 read-off-requires c κs =
     let p = c .before .before .before .before .before .before .before .before .before .before .before .pre in
     let r = c .before .before .before .before .before .add-columns in
     (p .1 .0, p .1 .1, omega (arith, p .1 .3), λ k. omega (arith, r .ensures .2 k, r .ensures .1), omega (arith, c .before .if1 .left), r .ensures .1, p .1 .5)
 
--- src/estimate.rt:72:1
 same-length-4 : tie.Need-same-length-4
 same-length-4 c = search needs
 
--- src/estimate.rt:72:1
 same-length-5 : tie.Need-same-length-5
 same-length-5 c = search needs
 
--- src/estimate.rt:72:1
 same-length-6 : tie.Need-same-length-6
 same-length-6 c = search needs
 
--- src/estimate.rt:72:1
 returns-2 : tie.Need-returns-2
 returns-2 c =
     let a = c .before .before .before .before .before .before .before .before .before .before .before .before .args in

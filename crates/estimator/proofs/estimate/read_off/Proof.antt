@@ -1,43 +1,22 @@
 -- `read_off` meets its contract: what the calls ensure, put together. Assumes nothing.
 use mir.Facts.{toZ-ofZ}
-use mathlib.Core.Path.{_≡_, refl, sym, ap, _∙_}
-use mathlib.Core.Bool.{Bool, true, false, cond}
-use mathlib.Core.List.{List}
-use Prim.Native.Nat.{ℕ, _+_, _-_, _*_, _≤_, _<_}
-use lib.ListN.{length}
-use lib.IntN.{ℤ, pos, natAbs, _-ℤ_, _*ℤ_}
-use lib.Signed.{ltZ, quotZ}
+use Prim.Native.Nat.{_+_, _-_}
 use mir.Syntax.{w32}
-use mir.Val.{toZ, ofZ}
 use Rattle.vitals.specs.Series.{at}
-use Rattle.vitals.specs.Rate.{vertex, bend}
-use Rattle.vitals.specs.Peak.{bestLag}
 use native.Mathlib.Omega.{arith}
 use borrow.Author.Needs.{needs, sfits-of}
 use Rattle.estimator.proofs.estimate.read_off.Statement.{statement}
 use Rattle.estimator.proofs.estimate.read_off.Tie as tie
-use Rattle.estimator.proofs.estimate.read_off.Reads as reads
-use Rattle.estimator.proofs.estimate.read_off.Lts as lts
-use Rattle.vitals.proofs.steps.rate.confidence_of.Reads as confidence-of-reads
-use Rattle.vitals.proofs.steps.rate.is_accepted.Reads as is-accepted-reads
-use Rattle.vitals.proofs.steps.rate.refined_lag.Reads as refined-lag-reads
-use Rattle.vitals.proofs.steps.peak.best_lag.Reads as best-lag-reads
-use Rattle.vitals.proofs.steps.rate.bpm_x10.Reads as bpm-x10-reads
-use Rattle.vitals.proofs.steps.rate.delta_x16.Reads as delta-x16-reads
 
--- src/estimate.rt:71:9
 best-lag-requires : tie.Need-best-lag-requires
 best-lag-requires c κs = search needs
 
--- src/estimate.rt:72:36
 mul-confidence-of : tie.Need-mul-confidence-of
 mul-confidence-of c = search needs
 
--- src/estimate.rt:72:36
 shared-slice-copy-out-confidence-of : tie.Need-shared-slice-copy-out-confidence-of
 shared-slice-copy-out-confidence-of c = search needs
 
--- src/estimate.rt:72:9
 confidence-of-requires : tie.Need-confidence-of-requires
 confidence-of-requires c κs =
     let start = c .before .before in
@@ -45,39 +24,30 @@ confidence-of-requires c κs =
     let b = c .before .best-lag .result in
     (rw (toZ-ofZ (sfits-of {w = w32} {z = at s b} (c .confidence-of-arg .given))) (start .pre .3 b), omega arith, omega arith)
 
--- src/estimate.rt:73:48
 sub-delta-x16 : tie.Need-sub-delta-x16
 sub-delta-x16 c = search needs
 
--- src/estimate.rt:73:41
 mul-delta-x16 : tie.Need-mul-delta-x16
 mul-delta-x16 c = search needs
 
--- src/estimate.rt:73:41
 shared-slice-copy-out-delta-x16 : tie.Need-shared-slice-copy-out-delta-x16
 shared-slice-copy-out-delta-x16 c = search needs
 
--- src/estimate.rt:73:59
 mul-delta-x16-2 : tie.Need-mul-delta-x16-2
 mul-delta-x16-2 c = search needs
 
--- src/estimate.rt:73:59
 shared-slice-copy-out-delta-x16-2 : tie.Need-shared-slice-copy-out-delta-x16-2
 shared-slice-copy-out-delta-x16-2 c = search needs
 
--- src/estimate.rt:73:80
 add-delta-x16 : tie.Need-add-delta-x16
 add-delta-x16 c = search needs
 
--- src/estimate.rt:73:73
 mul-delta-x16-3 : tie.Need-mul-delta-x16-3
 mul-delta-x16-3 c = search needs
 
--- src/estimate.rt:73:73
 shared-slice-copy-out-delta-x16-3 : tie.Need-shared-slice-copy-out-delta-x16-3
 shared-slice-copy-out-delta-x16-3 c = search needs
 
--- src/estimate.rt:73:9
 delta-x16-requires : tie.Need-delta-x16-requires
 delta-x16-requires c κs =
     let start = c .before .before .before .before .before .before in
@@ -88,21 +58,17 @@ delta-x16-requires c κs =
       rw (toZ-ofZ (sfits-of {w = w32} {z = at s (b + 1)} (c .delta-x16-arg3 .given))) (start .pre .3 (b + 1)),
     )
 
--- src/estimate.rt:74:9
 refined-lag-requires : tie.Need-refined-lag-requires
 refined-lag-requires c κs =
     let d = c .delta-x16 in
     (omega (arith, c .before .before .before .before .before .before .best-lag .ensures), rw (toZ-ofZ (sfits-of (d .ok))) (d .ensures .1))
 
--- src/estimate.rt:76:18
 bpm-x10-requires : tie.Need-bpm-x10-requires
 bpm-x10-requires c κs = search needs
 
--- src/estimate.rt:79:19
 is-accepted-requires : tie.Need-is-accepted-requires
 is-accepted-requires c κs = search needs
 
--- src/estimate.rt:66:1
 returns : tie.Need-returns
 returns c =
     let start = c .before .before .before .before .before .before .before .before .before .before in

@@ -1,38 +1,29 @@
 -- `is_legal` meets its contract: each test in its turn. Assumes nothing.
-use mathlib.Core.Path.{_≡_}
 use borrow.Author.Tests.{le-leb, lt-leb}
 use Rattle.estimator.specs.State.{legal}
 use borrow.Author.Needs.{needs}
 use Rattle.estimator.proofs.steps.is_legal.Statement.{statement}
 use Rattle.estimator.proofs.steps.is_legal.Tie as tie
-use Rattle.estimator.proofs.steps.is_legal.Reads as reads
-use Rattle.estimator.proofs.steps.is_legal.Lts as lts
-use Rattle.vitals.proofs.band.is_usable.Reads as is-usable-reads
 
--- src/steps.rt:31:9
 returns : tie.Need-returns
 unfolding legal
 returns c = rw (lt-leb 4 (c .before .args .n) (c .if1 .taken))
 
--- src/steps.rt:34:9
 returns-2 : tie.Need-returns-2
 unfolding legal
 returns-2 c =
     let a = c .before .before .args in
     rw (le-leb 4 (a .n) (c .before .if1 .left), lt-leb (a .n) 512 (c .if2 .taken))
 
--- src/steps.rt:37:9
 returns-3 : tie.Need-returns-3
 unfolding legal
 returns-3 c =
     let a = c .before .before .before .before .args in
     rw (le-leb 4 (a .n) (c .before .before .before .if1 .left), le-leb (a .n) 512 (c .before .before .if2 .left), lt-leb (a .config .decim) 32767 (c .if3 .taken))
 
--- src/steps.rt:40:5
 is-usable-requires : tie.Need-is-usable-requires
 is-usable-requires c κs = search needs
 
--- src/steps.rt:27:1
 returns-4 : tie.Need-returns-4
 unfolding legal
 returns-4 c =

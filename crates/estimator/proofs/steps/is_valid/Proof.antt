@@ -1,56 +1,41 @@
 -- `is_valid` meets its contract: each test in its turn. Assumes nothing.
-use mathlib.Core.Path.{_≡_, sym, _∙_}
+use mathlib.Core.Path.{sym, _∙_}
 use Prim.Native.Nat.{max}
-use native.Mathlib.Omega.{arith}
 use borrow.Author.Tests.{lt-ltb, le-ltb, le-leb, lt-leb}
 use Rattle.estimator.specs.State.{inRange}
 use borrow.Author.Needs.{needs}
 use Rattle.estimator.proofs.steps.is_valid.Statement.{statement}
 use Rattle.estimator.proofs.steps.is_valid.Tie as tie
-use Rattle.estimator.proofs.steps.is_valid.Reads as reads
-use Rattle.estimator.proofs.steps.is_valid.Lts as lts
-use Rattle.estimator.proofs.steps.at_least_one.Reads as at-least-one-reads
-use Rattle.estimator.proofs.steps.is_waiting.Reads as is-waiting-reads
-use Rattle.estimator.proofs.steps.totals_fit.Reads as totals-fit-reads
 
--- src/steps.rt:79:9
 returns : tie.Need-returns
 unfolding inRange
 returns c = rw (le-ltb (c .before .before .args .progress .next) (c .before .before .args .n) (c .if1 .taken))
 
--- src/steps.rt:82:9
 returns-2 : tie.Need-returns-2
 unfolding inRange
 returns-2 c = rw (lt-ltb (c .before .before .before .before .args .progress .next) (c .before .before .before .before .args .n) (c .before .before .if1 .left), lt-leb (c .before .before .before .before .args .progress .filled) (c .before .before .before .before .args .n) (c .if2 .taken))
 
--- src/steps.rt:85:9
 returns-3 : tie.Need-returns-3
 unfolding inRange
 returns-3 c = rw (lt-ltb (c .before .before .before .before .before .before .args .progress .next) (c .before .before .before .before .before .before .args .n) (c .before .before .before .before .if1 .left), le-leb (c .before .before .before .before .before .before .args .progress .filled) (c .before .before .before .before .before .before .args .n) (c .before .before .if2 .left), lt-leb (c .before .before .before .before .before .before .args .progress .count) 64 (c .if3 .taken))
 
--- src/steps.rt:87:8
 at-least-one-requires : tie.Need-at-least-one-requires
 at-least-one-requires c κs = search needs
 
--- src/steps.rt:88:9
 returns-4 : tie.Need-returns-4
 unfolding inRange
 returns-4 c = rw (lt-ltb (c .before .before .before .before .before .before .before .before .before .args .progress .next) (c .before .before .before .before .before .before .before .before .before .args .n) (c .before .before .before .before .before .before .before .if1 .left), le-leb (c .before .before .before .before .before .before .before .before .before .args .progress .filled) (c .before .before .before .before .before .before .before .before .before .args .n) (c .before .before .before .before .before .if2 .left), le-leb (c .before .before .before .before .before .before .before .before .before .args .progress .count) 64 (c .before .before .before .if3 .left), le-ltb (c .before .before .before .before .before .before .before .before .before .args .progress .«acc_n») (max 1 (c .before .before .before .before .before .before .before .before .before .args .config .decim)) (rw (c .before .before .at-least-one .ensures .0) at (c .if4 .taken)))
 
--- src/steps.rt:90:8
 totals-fit-requires : tie.Need-totals-fit-requires
 totals-fit-requires c κs = search needs
 
--- src/steps.rt:91:9
 is-waiting-requires : tie.Need-is-waiting-requires
 is-waiting-requires c κs = search needs
 
--- src/steps.rt:91:9
 returns-5 : tie.Need-returns-5
 unfolding inRange
 returns-5 c = rw (lt-ltb (c .before .before .before .before .before .before .before .before .before .before .before .before .args .progress .next) (c .before .before .before .before .before .before .before .before .before .before .before .before .args .n) (c .before .before .before .before .before .before .before .before .before .before .if1 .left), le-leb (c .before .before .before .before .before .before .before .before .before .before .before .before .args .progress .filled) (c .before .before .before .before .before .before .before .before .before .before .before .before .args .n) (c .before .before .before .before .before .before .before .before .if2 .left), le-leb (c .before .before .before .before .before .before .before .before .before .before .before .before .args .progress .count) 64 (c .before .before .before .before .before .before .if3 .left), lt-ltb (c .before .before .before .before .before .before .before .before .before .before .before .before .args .progress .«acc_n») (max 1 (c .before .before .before .before .before .before .before .before .before .before .before .before .args .config .decim)) (rw (c .before .before .before .before .before .at-least-one .ensures .0) at (c .before .before .before .if4 .left)), sym (c .before .before .totals-fit .ensures) ∙ c .before .if5 .taken) (c .is-waiting .ensures)
 
--- src/steps.rt:75:1
 returns-6 : tie.Need-returns-6
 unfolding inRange
 returns-6 c = rw (lt-ltb (c .before .before .before .before .before .before .before .before .before .before .before .args .progress .next) (c .before .before .before .before .before .before .before .before .before .before .before .args .n) (c .before .before .before .before .before .before .before .before .before .if1 .left), le-leb (c .before .before .before .before .before .before .before .before .before .before .before .args .progress .filled) (c .before .before .before .before .before .before .before .before .before .before .before .args .n) (c .before .before .before .before .before .before .before .if2 .left), le-leb (c .before .before .before .before .before .before .before .before .before .before .before .args .progress .count) 64 (c .before .before .before .before .before .if3 .left), lt-ltb (c .before .before .before .before .before .before .before .before .before .before .before .args .progress .«acc_n») (max 1 (c .before .before .before .before .before .before .before .before .before .before .before .args .config .decim)) (rw (c .before .before .before .before .at-least-one .ensures .0) at (c .before .before .if4 .left)), sym (c .before .totals-fit .ensures) ∙ c .if5 .left)

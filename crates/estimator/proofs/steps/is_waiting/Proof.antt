@@ -1,26 +1,18 @@
 -- `is_waiting` meets its contract. Assumes nothing.
-use mathlib.Core.Path.{_≡_}
 use borrow.Author.Tests.{lt-ltb, le-ltb}
 use borrow.Author.Needs.{needs}
 use Rattle.estimator.proofs.steps.is_waiting.Statement.{statement}
 use Rattle.estimator.proofs.steps.is_waiting.Tie as tie
-use Rattle.estimator.proofs.steps.is_waiting.Reads as reads
-use Rattle.estimator.proofs.steps.is_waiting.Lts as lts
-use Rattle.estimator.proofs.steps.at_least_one.Reads as at-least-one-reads
 
--- src/steps.rt:69:16
 cast-result : tie.Need-cast-result
 cast-result c = search needs
 
--- src/steps.rt:69:9
 returns : tie.Need-returns
 returns c = rw (lt-ltb (c .before .before .before .before .args .progress .filled) (c .before .before .before .before .args .n) (c .before .before .if1 .taken))
 
--- src/steps.rt:71:29
 at-least-one-requires : tie.Need-at-least-one-requires
 at-least-one-requires c κs = search needs
 
--- src/steps.rt:65:1
 returns-2 : tie.Need-returns-2
 returns-2 c = rw (le-ltb (c .before .before .before .before .args .progress .filled) (c .before .before .before .before .args .n) (c .before .before .if1 .left), c .before .at-least-one .ensures .0)
 

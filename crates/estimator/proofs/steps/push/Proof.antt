@@ -1,30 +1,21 @@
 -- `push` meets its contract, by the laws of a frame (Frames.antt). Assumes nothing.
-use mathlib.Core.Path.{_≡_, refl, sym, ap, _∙_, subst}
+use mathlib.Core.Path.{_≡_, ap, _∙_}
 use mathlib.Core.List.{List}
-use Prim.Native.Nat.{ℕ, _+_, _*_, _≤_, _<_, max}
+use Prim.Native.Nat.{ℕ, _+_, _≤_, _<_}
 use native.Mathlib.Nat.{mod-lt}
 use native.Mathlib.Omega.{arith}
-use lib.ListN.{length, getD, take, replicate}
+use lib.ListN.{take}
 use Rattle.num.specs.Lists.{plus}
 use Rattle.window.specs.Window.{columns, ringRows}
 use Rattle.estimator.specs.Estimator.{orOne}
-use Rattle.estimator.specs.State.{ringLength, begunAt, begunTotals, fedAt, fedTotals, closedAt, rowsWith, judgedBy, Took}
+use Rattle.estimator.specs.State.{begunAt, begunTotals, fedAt, fedTotals, closedAt, rowsWith, judgedBy}
 use Rattle.estimator.specs.declared.Progress.{Progress}
-use Rattle.estimator.specs.declared.steps.Stepped.{Stepped}
-use Rattle.estimator.proofs.Facts.{Legal, InRange, Bounded, legal-facts, range-tells}
+use Rattle.estimator.proofs.Facts.{InRange, Bounded, legal-facts, range-tells}
 use Rattle.estimator.proofs.Frames as F
 use Rattle.estimator.proofs.Frames.{Given}
 use borrow.Author.Needs.{needs}
 use Rattle.estimator.proofs.steps.push.Statement.{statement}
 use Rattle.estimator.proofs.steps.push.Tie as tie
-use Rattle.estimator.proofs.steps.push.Reads as reads
-use Rattle.estimator.proofs.steps.push.Lts as lts
-use Rattle.estimator.proofs.block.add_frame.Reads as add-frame-reads
-use Rattle.estimator.proofs.block.begin.Reads as begin-reads
-use Rattle.estimator.proofs.block.close.Reads as close-reads
-use Rattle.estimator.proofs.block.with_frame.Reads as with-frame-reads
-use Rattle.estimator.proofs.estimate.judge.Reads as judge-reads
-use Rattle.estimator.proofs.steps.at_least_one.Reads as at-least-one-reads
 
 given : (c : tie.Start) → Given (c .args .config) (c .args .n) (c .args .progress) (c .args .acc .now) (c .args .rows .now) (c .args .amplitude .now) (c .args .count)
 given c = record {
@@ -70,15 +61,12 @@ rows-are c =
     ∙ ap (λ (t : Progress). rowsWith t (c .before .before .before .before .before .before .before .before .add-frame .last .0) (ringRows (a .n) columns (a .rows .now)) (a .count)) (fed-is (c .before .before .before .before .before .before .before))
     ∙ ap (λ (t : List ℕ). rowsWith (fedAt (begunAt (a .progress) (a .count))) t (ringRows (a .n) columns (a .rows .now)) (a .count)) (totals-are (c .before .before .before .before .before .before .before .before))
 
--- src/steps.rt:125:9
 returns : tie.Need-returns
 returns c = F.took-none (c .before .before .before .args .config) (c .before .before .before .args .n) (c .before .before .before .args .time) (c .before .before .before .args .progress) (c .before .before .before .args .acc .now) (c .before .before .before .args .rows .now) (c .before .before .before .args .amplitude .now) (c .before .before .before .args .count) (given (c .before .before .before)) (c .if1 .taken)
 
--- src/steps.rt:130:9
 begin-requires : tie.Need-begin-requires
 begin-requires c κs = search needs
 
--- src/steps.rt:131:5
 add-frame-requires : tie.Need-add-frame-requires
 add-frame-requires c κs =
     let start = c .before .before .before .before .before .before in
@@ -91,15 +79,12 @@ add-frame-requires c κs =
       λ k h. omega (arith, begun start .totals k h, few start),
     )
 
--- src/steps.rt:132:9
 with-frame-requires : tie.Need-with-frame-requires
 with-frame-requires c κs = rw (c .before .before .begin .ensures .0) (omega (arith, few (c .before .before .before .before .before .before .before)))
 
--- src/steps.rt:133:20
 at-least-one-requires : tie.Need-at-least-one-requires
 at-least-one-requires c κs = search needs
 
--- src/steps.rt:134:9
 returns-2 : tie.Need-returns-2
 returns-2 c =
     let fed = fed-is (c .before .before .before) in
@@ -107,11 +92,9 @@ returns-2 c =
     let still : begunAt (c .before .before .before .before .before .before .before .before .before .before .before .args .progress) (c .before .before .before .before .before .before .before .before .before .before .before .args .count) .«acc_n» + 1 < orOne (c .before .before .before .before .before .before .before .before .before .before .before .args .config .decim) = rw (ap (λ (t : Progress). t .«acc_n») fed, c .before .before .at-least-one .ensures .0) at (c .if2 .taken) in
     rw (fed, acc) (F.took-open (c .before .before .before .before .before .before .before .before .before .before .before .args .config) (c .before .before .before .before .before .before .before .before .before .before .before .args .n) (c .before .before .before .before .before .before .before .before .before .before .before .args .time) (c .before .before .before .before .before .before .before .before .before .before .before .args .progress) (c .before .before .before .before .before .before .before .before .before .before .before .args .acc .now) (c .before .before .before .before .before .before .before .before .before .before .before .args .rows .now) (c .before .before .before .before .before .before .before .before .before .before .before .args .amplitude .now) (c .before .before .before .before .before .before .before .before .before .before .before .args .count) (given (c .before .before .before .before .before .before .before .before .before .before .before)) (c .before .before .before .before .before .before .before .before .if1 .left) (bound (c .before .before .before .before)) still)
 
--- src/steps.rt:139:9
 at-least-one-requires-2 : tie.Need-at-least-one-requires-2
 at-least-one-requires-2 c κs = search needs
 
--- src/steps.rt:140:9
 close-requires : tie.Need-close-requires
 close-requires c κs =
     let start = c .before .before .before .before .before .before .before .before .before .before .before .before .before .before in
@@ -125,17 +108,14 @@ close-requires c κs =
       (omega arith, omega (arith, few start), F.totals-long (c .before .before .before .before .before .before .before .before .before .before .before .before .before .before .args .config) (c .before .before .before .before .before .before .before .before .before .before .before .before .before .before .args .n) (c .before .before .before .before .before .before .before .before .before .before .before .before .before .before .args .time) (c .before .before .before .before .before .before .before .before .before .before .before .before .before .before .args .progress) (c .before .before .before .before .before .before .before .before .before .before .before .before .before .before .args .acc .now) (c .before .before .before .before .before .before .before .before .before .before .before .before .before .before .args .rows .now) (c .before .before .before .before .before .before .before .before .before .before .before .before .before .before .args .amplitude .now) (c .before .before .before .before .before .before .before .before .before .before .before .before .before .before .args .count) (given (c .before .before .before .before .before .before .before .before .before .before .before .before .before .before)), bound (c .before .before .before .before .before .before .before)),
     )
 
--- src/steps.rt:141:5
 judge-requires : tie.Need-judge-requires
 judge-requires c κs =
     let start = c .before .before .before .before .before .before .before .before .before .before .before .before .before .before .before .before .before .before in
     (start .pre .0 .0, omega (arith, start .pre .0 .1), rw (closed-is (c .before .before .before)) (mod-lt _ (omega (arith, given start .legal .least))), start .pre .0 .3, c .before .before .before .before .before .before .at-least-one2 .ensures .0)
 
--- src/steps.rt:110:1
 same-length : tie.Need-same-length
 same-length c = search needs
 
--- src/steps.rt:110:1
 returns-3 : tie.Need-returns-3
 returns-3 c =
     let start = c .before .before .before .before .before .before .before .before .before .before .before .before .before .before .before .before .before .before .before in

@@ -1,19 +1,13 @@
 -- `totals_fit` meets its contract: the totals passed are in range. Assumes nothing.
-use mathlib.Core.Path.{_≡_, refl, sym, ap, _∙_}
-use mathlib.Core.Bool.{true, false}
-use Prim.Native.Nat.{ℕ, _+_, _-_, _*_, _≤_, _<_}
+use Prim.Native.Nat.{ℕ, _-_, _*_, _≤_, _<_}
 use native.Mathlib.Omega.{arith}
-use borrow.Author.Needs.{needs}
 use borrow.Author.Count.{below-none, below-more}
-use lib.ListN.{length, getD}
+use lib.ListN.{getD}
 use Rattle.num.proofs.Tests.{tells-same, tells-yes, tells-no}
 use Rattle.window.specs.Window.{columns}
-use Rattle.estimator.specs.State.{bounded}
 use Rattle.estimator.proofs.Facts.{Bounded, bounded-tells}
 use Rattle.estimator.proofs.steps.totals_fit.Statement.{statement}
 use Rattle.estimator.proofs.steps.totals_fit.Tie as tie
-use Rattle.estimator.proofs.steps.totals_fit.Reads as reads
-use Rattle.estimator.proofs.steps.totals_fit.Lts as lts
 
 abbrev Inv-loop : tie.InvT-loop
 Inv-loop acc frames most sc₀ sc =
@@ -22,43 +16,34 @@ Inv-loop acc frames most sc₀ sc =
 abbrev μ-loop : tie.MeasureT-loop
 μ-loop acc frames most sc₀ sc = columns - sc
 
--- src/steps.rt:55:16
 mul-most : tie.Need-mul-most Inv-loop μ-loop
 mul-most c = omega arith
 
--- src/steps.rt:56:5
 loop-holds : tie.Need-loop-holds Inv-loop μ-loop
 loop-holds c = (omega arith, below-none _)
 
--- src/steps.rt:57:19
 mul-if1 : tie.Need-mul-if1 Inv-loop μ-loop
 mul-if1 c = omega arith
 
--- src/steps.rt:57:19
 element-copy-out-if1 : tie.Need-element-copy-out-if1 Inv-loop μ-loop
 element-copy-out-if1 c = omega arith
 
--- src/steps.rt:58:13
 returns : tie.Need-returns Inv-loop μ-loop
 returns c =
     let a = c .before .before .before .before .args in
     tells-same _ _ (tells-no (λ (h : Bounded (a .frames) (a .acc .now)). omega (arith, h (c .before .before .before .loop .sc) (omega arith)))) (bounded-tells (a .frames) (a .acc .now))
 
--- src/steps.rt:56:9
 add-sc : tie.Need-add-sc Inv-loop μ-loop
 add-sc c = omega arith
 
--- src/steps.rt:56:5
 loop-less : tie.Need-loop-less Inv-loop μ-loop
 loop-less c = omega arith
 
--- src/steps.rt:56:5
 loop-again : tie.Need-loop-again Inv-loop μ-loop
 loop-again c =
     let l = c .before .before .before .loop in
     (omega arith, below-more _ (l .sc) (l .inv .1) (omega arith))
 
--- src/steps.rt:51:1
 returns-2 : tie.Need-returns-2 Inv-loop μ-loop
 returns-2 c =
     let a = c .before .before .args in

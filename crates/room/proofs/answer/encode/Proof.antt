@@ -2,58 +2,40 @@
 use borrow.Author.Needs.{needs}
 use Rattle.room.proofs.answer.encode.Statement.{statement}
 use Rattle.room.proofs.answer.encode.Tie as tie
-use Rattle.room.proofs.answer.encode.Reads as reads
-use Rattle.room.proofs.answer.encode.Lts as lts
-use Rattle.room.proofs.answer.learnt_bytes.Reads as learnt-bytes-reads
-use Rattle.room.proofs.answer.refused_bytes.Reads as refused-bytes-reads
-use Rattle.room.proofs.answer.reset_bytes.Reads as reset-bytes-reads
-use Rattle.room.proofs.answer.watched_bytes.Reads as watched-bytes-reads
 
--- src/answer.rt:200:25
 enum-known-answer : tie.Need-enum-known-answer
 enum-known-answer c = search needs
 
--- src/answer.rt:200:36
 refused-bytes-requires : tie.Need-refused-bytes-requires
 refused-bytes-requires c κs = search needs
 
--- src/answer.rt:201:23
 enum-known-answer-2 : tie.Need-enum-known-answer-2
 enum-known-answer-2 c = search needs
 
--- src/answer.rt:201:29
 watched-bytes-requires : tie.Need-watched-bytes-requires
 watched-bytes-requires c κs = search needs
 
--- src/answer.rt:202:29
 enum-known-answer-3 : tie.Need-enum-known-answer-3
 enum-known-answer-3 c = search needs
 
--- src/answer.rt:202:47
 learnt-bytes-requires : tie.Need-learnt-bytes-requires
 learnt-bytes-requires c κs = search needs
 
--- src/answer.rt:203:26
 enum-told : tie.Need-enum-told
 enum-told c = search needs
 
--- src/answer.rt:203:26
 reset-bytes-requires : tie.Need-reset-bytes-requires
 reset-bytes-requires c κs = search needs
 
--- src/answer.rt:196:1
 returns : tie.Need-returns
 returns c = rw (c .before .before .answer .given .1) (c .refused-bytes .ensures)
 
--- src/answer.rt:196:1
 returns-2 : tie.Need-returns-2
 returns-2 c = rw (c .before .before .answer2 .given .1) (c .watched-bytes .ensures)
 
--- src/answer.rt:196:1
 returns-3 : tie.Need-returns-3
 returns-3 c = rw (c .before .before .answer3 .given .1) (c .learnt-bytes .ensures)
 
--- src/answer.rt:196:1
 returns-4 : tie.Need-returns-4
 returns-4 c = rw (c .before .enum-told .given .1) (c .reset-bytes .ensures)
 

@@ -3,10 +3,7 @@ use mathlib.Core.Path.{refl}
 use Rattle.room.specs.Answers.{resetBytes}
 use Rattle.room.proofs.answer.reset_bytes.Statement.{statement}
 use Rattle.room.proofs.answer.reset_bytes.Tie as tie
-use Rattle.room.proofs.answer.reset_bytes.Reads as reads
-use Rattle.room.proofs.answer.reset_bytes.Lts as lts
 
--- src/answer.rt:164:1
 returns : tie.Need-returns
 unfolding resetBytes
 returns c = refl

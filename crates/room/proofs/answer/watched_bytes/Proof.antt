@@ -3,104 +3,73 @@ use Rattle.room.specs.Answers.{watchedBytes}
 use borrow.Author.Needs.{needs}
 use Rattle.room.proofs.answer.watched_bytes.Statement.{statement}
 use Rattle.room.proofs.answer.watched_bytes.Tie as tie
-use Rattle.room.proofs.answer.watched_bytes.Reads as reads
-use Rattle.room.proofs.answer.watched_bytes.Lts as lts
-use Rattle.detector.proofs.Verdict.motion.Reads as motion-reads
-use Rattle.detector.proofs.Verdict.tag.Reads as tag-reads
-use Rattle.num.proofs.steps.u16_bytes.Reads as u16-bytes-reads
-use Rattle.num.proofs.steps.u32_bytes.Reads as u32-bytes-reads
-use Rattle.room.proofs.answer.flag_byte.Reads as flag-byte-reads
-use Rattle.room.proofs.answer.rate_bytes.Reads as rate-bytes-reads
 
--- src/answer.rt:96:13
 u16-bytes-requires : tie.Need-u16-bytes-requires
 u16-bytes-requires c κs = search needs
 
--- src/answer.rt:97:13
 u16-bytes-requires-2 : tie.Need-u16-bytes-requires-2
 u16-bytes-requires-2 c κs = search needs
 
--- src/answer.rt:98:13
 u32-bytes-requires : tie.Need-u32-bytes-requires
 u32-bytes-requires c κs = search needs
 
--- src/answer.rt:101:13
 rate-bytes-requires : tie.Need-rate-bytes-requires
 rate-bytes-requires c κs = search needs
 
--- src/answer.rt:102:13
 rate-bytes-requires-2 : tie.Need-rate-bytes-requires-2
 rate-bytes-requires-2 c κs = search needs
 
--- src/answer.rt:105:9
 tag-requires : tie.Need-tag-requires
 tag-requires c κs = search needs
 
--- src/answer.rt:106:9
 motion-requires : tie.Need-motion-requires
 motion-requires c κs = search needs
 
--- src/answer.rt:107:9
 flag-byte-requires : tie.Need-flag-byte-requires
 flag-byte-requires c κs = search needs
 
--- src/answer.rt:108:9
 array-read-t18 : tie.Need-array-read-t18
 array-read-t18 c = search needs
 
--- src/answer.rt:109:9
 array-read-t21 : tie.Need-array-read-t21
 array-read-t21 c = search needs
 
--- src/answer.rt:110:9
 array-read-t24 : tie.Need-array-read-t24
 array-read-t24 c = search needs
 
--- src/answer.rt:111:9
 array-read-t27 : tie.Need-array-read-t27
 array-read-t27 c = search needs
 
--- src/answer.rt:112:9
 array-read-t30 : tie.Need-array-read-t30
 array-read-t30 c = search needs
 
--- src/answer.rt:113:9
 array-read-t33 : tie.Need-array-read-t33
 array-read-t33 c = search needs
 
--- src/answer.rt:114:9
 array-read-t36 : tie.Need-array-read-t36
 array-read-t36 c = search needs
 
--- src/answer.rt:115:9
 array-read-t39 : tie.Need-array-read-t39
 array-read-t39 c = search needs
 
--- src/answer.rt:116:9
 array-read-t42 : tie.Need-array-read-t42
 array-read-t42 c = search needs
 
--- src/answer.rt:117:9
 array-read-t45 : tie.Need-array-read-t45
 array-read-t45 c = search needs
 
--- src/answer.rt:118:9
 array-read-t48 : tie.Need-array-read-t48
 array-read-t48 c = search needs
 
--- src/answer.rt:119:9
 array-read-t51 : tie.Need-array-read-t51
 array-read-t51 c = search needs
 
--- src/answer.rt:120:9
 array-read-t54 : tie.Need-array-read-t54
 array-read-t54 c = search needs
 
--- src/answer.rt:121:9
 array-read-t57 : tie.Need-array-read-t57
 array-read-t57 c = search needs
 
--- src/answer.rt:92:1
 returns : tie.Need-returns
 unfolding watchedBytes
 returns c = rw (c .before .before .before .before .before .before .before .u16-bytes .ensures, c .before .before .before .before .before .before .u16-bytes2 .ensures, c .before .before .before .before .before .u32-bytes .ensures, c .before .before .before .before .rate-bytes .ensures, c .before .before .before .rate-bytes2 .ensures, c .before .before .tag .ensures, c .before .motion .ensures, c .flag-byte .ensures)

@@ -4,36 +4,25 @@ use Rattle.room.proofs.Judged.{no-sample, a-sample}
 use borrow.Author.Needs.{needs}
 use Rattle.room.proofs.sample.bytes_refusal.Statement.{statement}
 use Rattle.room.proofs.sample.bytes_refusal.Tie as tie
-use Rattle.room.proofs.sample.bytes_refusal.Reads as reads
-use Rattle.room.proofs.sample.bytes_refusal.Lts as lts
-use Rattle.csi.proofs.frame.refusal.Reads as refusal-reads
-use Rattle.csi_stream.proofs.Sample.decode.Reads as decode-reads
 
--- src/sample.rt:11:11
 decode-requires : tie.Need-decode-requires
 decode-requires c κs = search needs
 
--- src/sample.rt:12:26
 enum-known-number : tie.Need-enum-known-number
 enum-known-number c = search needs
 
--- src/sample.rt:13:27
 enum-known-sample : tie.Need-enum-known-sample
 enum-known-sample c = search needs
 
--- src/sample.rt:13:61
 cast-refusal : tie.Need-cast-refusal
 cast-refusal c = search needs
 
--- src/sample.rt:13:41
 refusal-requires : tie.Need-refusal-requires
 refusal-requires c κs = search needs
 
--- src/sample.rt:8:1
 returns : tie.Need-returns
 returns c = no-sample (c .before .before .before .before .before .args .body .now) _ (sym (c .before .before .before .decode .ensures) ∙ c .before .number .given .1)
 
--- src/sample.rt:8:1
 returns-2 : tie.Need-returns-2
 returns-2 c = a-sample (c .before .before .before .before .before .before .args .body .now) _ _ _ (sym (c .before .before .before .before .decode .ensures) ∙ c .before .before .sample .given .1) (c .refusal .ensures)
 

@@ -2,72 +2,52 @@
 use borrow.Author.Needs.{needs}
 use Rattle.room.proofs.settings.fall_at.Statement.{statement}
 use Rattle.room.proofs.settings.fall_at.Tie as tie
-use Rattle.room.proofs.settings.fall_at.Reads as reads
-use Rattle.room.proofs.settings.fall_at.Lts as lts
-use Rattle.num.proofs.steps.u16_at.Reads as u16-at-reads
-use Rattle.num.proofs.steps.u64_at.Reads as u64-at-reads
 
--- src/settings.rt:81:26
 u16-at-requires : tie.Need-u16-at-requires
 u16-at-requires c κs = search needs
 
--- src/settings.rt:82:39
 add-u16-at : tie.Need-add-u16-at
 add-u16-at c = search needs
 
--- src/settings.rt:82:25
 u16-at-requires-2 : tie.Need-u16-at-requires-2
 u16-at-requires-2 c κs = search needs
 
--- src/settings.rt:83:39
 add-u16-at-2 : tie.Need-add-u16-at-2
 add-u16-at-2 c = search needs
 
--- src/settings.rt:83:25
 u16-at-requires-3 : tie.Need-u16-at-requires-3
 u16-at-requires-3 c κs = search needs
 
--- src/settings.rt:84:35
 add-u64-at : tie.Need-add-u64-at
 add-u64-at c = search needs
 
--- src/settings.rt:84:21
 u64-at-requires : tie.Need-u64-at-requires
 u64-at-requires c κs = search needs
 
--- src/settings.rt:85:36
 add-u64-at-2 : tie.Need-add-u64-at-2
 add-u64-at-2 c = search needs
 
--- src/settings.rt:85:22
 u64-at-requires-2 : tie.Need-u64-at-requires-2
 u64-at-requires-2 c κs = search needs
 
--- src/settings.rt:86:31
 add-u64-at-3 : tie.Need-add-u64-at-3
 add-u64-at-3 c = search needs
 
--- src/settings.rt:86:17
 u64-at-requires-3 : tie.Need-u64-at-requires-3
 u64-at-requires-3 c κs = search needs
 
--- src/settings.rt:87:34
 add-u64-at-4 : tie.Need-add-u64-at-4
 add-u64-at-4 c = search needs
 
--- src/settings.rt:87:20
 u64-at-requires-4 : tie.Need-u64-at-requires-4
 u64-at-requires-4 c κs = search needs
 
--- src/settings.rt:88:35
 add-u64-at-5 : tie.Need-add-u64-at-5
 add-u64-at-5 c = search needs
 
--- src/settings.rt:88:21
 u64-at-requires-5 : tie.Need-u64-at-requires-5
 u64-at-requires-5 c κs = search needs
 
--- src/settings.rt:76:1
 returns : tie.Need-returns
 returns c = rw (c .before .before .before .before .before .before .before .u16-at .ensures, c .before .before .before .before .before .before .u16-at2 .ensures, c .before .before .before .before .before .u16-at3 .ensures, c .before .before .before .before .u64-at .ensures, c .before .before .before .u64-at2 .ensures, c .before .before .u64-at3 .ensures, c .before .u64-at4 .ensures, c .u64-at5 .ensures)
 

@@ -4,44 +4,32 @@ use Rattle.room.specs.Settings.{inRange}
 use borrow.Author.Needs.{needs}
 use Rattle.room.proofs.settings.is_in_range.Statement.{statement}
 use Rattle.room.proofs.settings.is_in_range.Tie as tie
-use Rattle.room.proofs.settings.is_in_range.Reads as reads
-use Rattle.room.proofs.settings.is_in_range.Lts as lts
-use Rattle.detector.proofs.steps.is_window.Reads as is-window-reads
-use Rattle.estimator.proofs.steps.is_legal.Reads as is-legal-reads
 
--- src/settings.rt:112:13
 cast-w : tie.Need-cast-w
 cast-w c = search needs
 
--- src/settings.rt:113:8
 is-window-requires : tie.Need-is-window-requires
 is-window-requires c κs = search needs
 
--- src/settings.rt:114:17
 cast-n : tie.Need-cast-n
 cast-n c = search needs
 
--- src/settings.rt:116:12
 is-legal-requires : tie.Need-is-legal-requires
 is-legal-requires c κs = search needs
 
--- src/settings.rt:118:13
 is-legal-requires-2 : tie.Need-is-legal-requires-2
 is-legal-requires-2 c κs = search needs
 
--- src/settings.rt:118:13
 returns : tie.Need-returns
 unfolding inRange
 returns c =
     rw (sym (c .before .before .before .before .before .before .before .is-window .ensures) ∙ c .before .before .before .before .before .before .if1 .taken, sym (c .before .before .before .is-legal .ensures) ∙ c .before .before .if2 .taken)
     (c .is-legal2 .ensures)
 
--- src/settings.rt:120:9
 returns-2 : tie.Need-returns-2
 unfolding inRange
 returns-2 c = rw (sym (c .before .before .before .before .before .is-window .ensures) ∙ c .before .before .before .before .if1 .taken, sym (c .before .is-legal .ensures) ∙ c .if2 .left)
 
--- src/settings.rt:109:1
 returns-3 : tie.Need-returns-3
 unfolding inRange
 returns-3 c = rw (sym (c .before .is-window .ensures) ∙ c .if1 .left)

@@ -7,25 +7,17 @@ use Rattle.room.specs.Settings.{inRange, legal}
 use borrow.Author.Needs.{needs}
 use Rattle.room.proofs.settings.is_legal.Statement.{statement}
 use Rattle.room.proofs.settings.is_legal.Tie as tie
-use Rattle.room.proofs.settings.is_legal.Reads as reads
-use Rattle.room.proofs.settings.is_legal.Lts as lts
-use Rattle.room.proofs.settings.is_in_range.Reads as is-in-range-reads
-use Rattle.room.proofs.settings.settings_of.Reads as settings-of-reads
 
--- src/settings.rt:130:9
 returns : tie.Need-returns
 unfolding legal
 returns c = rw (ne-eqb (length (c .before .before .args .bytes .now)) settingsLen (c .if1 .taken))
 
--- src/settings.rt:132:17
 settings-of-requires : tie.Need-settings-of-requires
 settings-of-requires c κs = search needs
 
--- src/settings.rt:132:5
 is-in-range-requires : tie.Need-is-in-range-requires
 is-in-range-requires c κs = search needs
 
--- src/settings.rt:126:1
 returns-2 : tie.Need-returns-2
 unfolding legal
 returns-2 c =

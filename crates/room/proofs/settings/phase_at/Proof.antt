@@ -2,32 +2,22 @@
 use borrow.Author.Needs.{needs}
 use Rattle.room.proofs.settings.phase_at.Statement.{statement}
 use Rattle.room.proofs.settings.phase_at.Tie as tie
-use Rattle.room.proofs.settings.phase_at.Reads as reads
-use Rattle.room.proofs.settings.phase_at.Lts as lts
-use Rattle.num.proofs.steps.u32_at.Reads as u32-at-reads
-use Rattle.num.proofs.steps.u64_at.Reads as u64-at-reads
 
--- src/settings.rt:53:17
 u32-at-requires : tie.Need-u32-at-requires
 u32-at-requires c κs = search needs
 
--- src/settings.rt:54:32
 add-u32-at : tie.Need-add-u32-at
 add-u32-at c = search needs
 
--- src/settings.rt:54:18
 u32-at-requires-2 : tie.Need-u32-at-requires-2
 u32-at-requires-2 c κs = search needs
 
--- src/settings.rt:55:29
 add-u64-at : tie.Need-add-u64-at
 add-u64-at c = search needs
 
--- src/settings.rt:55:15
 u64-at-requires : tie.Need-u64-at-requires
 u64-at-requires c κs = search needs
 
--- src/settings.rt:48:1
 returns : tie.Need-returns
 returns c = rw (c .before .before .u32-at .ensures, c .before .u32-at2 .ensures, c .u64-at .ensures)
 

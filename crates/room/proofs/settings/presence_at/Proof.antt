@@ -2,32 +2,22 @@
 use borrow.Author.Needs.{needs}
 use Rattle.room.proofs.settings.presence_at.Statement.{statement}
 use Rattle.room.proofs.settings.presence_at.Tie as tie
-use Rattle.room.proofs.settings.presence_at.Reads as reads
-use Rattle.room.proofs.settings.presence_at.Lts as lts
-use Rattle.num.proofs.steps.u16_at.Reads as u16-at-reads
-use Rattle.num.proofs.steps.u64_at.Reads as u64-at-reads
 
--- src/settings.rt:42:22
 u16-at-requires : tie.Need-u16-at-requires
 u16-at-requires c κs = search needs
 
--- src/settings.rt:43:37
 add-u16-at : tie.Need-add-u16-at
 add-u16-at c = search needs
 
--- src/settings.rt:43:23
 u16-at-requires-2 : tie.Need-u16-at-requires-2
 u16-at-requires-2 c κs = search needs
 
--- src/settings.rt:44:29
 add-u64-at : tie.Need-add-u64-at
 add-u64-at c = search needs
 
--- src/settings.rt:44:15
 u64-at-requires : tie.Need-u64-at-requires
 u64-at-requires c κs = search needs
 
--- src/settings.rt:37:1
 returns : tie.Need-returns
 returns c = rw (c .before .before .u16-at .ensures, c .before .u16-at2 .ensures, c .u64-at .ensures)
 

@@ -2,64 +2,46 @@
 use borrow.Author.Needs.{needs}
 use Rattle.room.proofs.settings.rhythm_at.Statement.{statement}
 use Rattle.room.proofs.settings.rhythm_at.Tie as tie
-use Rattle.room.proofs.settings.rhythm_at.Reads as reads
-use Rattle.room.proofs.settings.rhythm_at.Lts as lts
-use Rattle.num.proofs.steps.u16_at.Reads as u16-at-reads
-use Rattle.num.proofs.steps.u32_at.Reads as u32-at-reads
 
--- src/settings.rt:64:16
 u16-at-requires : tie.Need-u16-at-requires
 u16-at-requires c κs = search needs
 
--- src/settings.rt:65:32
 add-u32-at : tie.Need-add-u32-at
 add-u32-at c = search needs
 
--- src/settings.rt:65:18
 u32-at-requires : tie.Need-u32-at-requires
 u32-at-requires c κs = search needs
 
--- src/settings.rt:67:35
 add-u32-at-2 : tie.Need-add-u32-at-2
 add-u32-at-2 c = search needs
 
--- src/settings.rt:67:21
 u32-at-requires-2 : tie.Need-u32-at-requires-2
 u32-at-requires-2 c κs = search needs
 
--- src/settings.rt:68:35
 add-u32-at-3 : tie.Need-add-u32-at-3
 add-u32-at-3 c = search needs
 
--- src/settings.rt:68:21
 u32-at-requires-3 : tie.Need-u32-at-requires-3
 u32-at-requires-3 c κs = search needs
 
--- src/settings.rt:70:37
 add-u16-at : tie.Need-add-u16-at
 add-u16-at c = search needs
 
--- src/settings.rt:70:23
 u16-at-requires-2 : tie.Need-u16-at-requires-2
 u16-at-requires-2 c κs = search needs
 
--- src/settings.rt:71:40
 add-u16-at-2 : tie.Need-add-u16-at-2
 add-u16-at-2 c = search needs
 
--- src/settings.rt:71:26
 u16-at-requires-3 : tie.Need-u16-at-requires-3
 u16-at-requires-3 c κs = search needs
 
--- src/settings.rt:72:33
 add-u16-at-3 : tie.Need-add-u16-at-3
 add-u16-at-3 c = search needs
 
--- src/settings.rt:72:19
 u16-at-requires-4 : tie.Need-u16-at-requires-4
 u16-at-requires-4 c κs = search needs
 
--- src/settings.rt:59:1
 returns : tie.Need-returns
 returns c = rw (c .before .before .before .before .before .before .u16-at .ensures, c .before .before .before .before .before .u32-at .ensures, c .before .before .before .before .u32-at2 .ensures, c .before .before .before .u32-at3 .ensures, c .before .before .u16-at2 .ensures, c .before .u16-at3 .ensures, c .u16-at4 .ensures)
 

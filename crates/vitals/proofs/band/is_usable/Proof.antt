@@ -3,29 +3,23 @@ use borrow.Author.Tests.{le-leb, lt-leb}
 use Rattle.vitals.specs.Band.{usable}
 use Rattle.vitals.proofs.band.is_usable.Statement.{statement}
 use Rattle.vitals.proofs.band.is_usable.Tie as tie
-use Rattle.vitals.proofs.band.is_usable.Reads as reads
-use Rattle.vitals.proofs.band.is_usable.Lts as lts
 
--- src/band.rt:32:9
 returns : tie.Need-returns
 unfolding usable
 returns c = rw (lt-leb 1 (c .before .args .rate-hz) (c .if1 .taken))
 
--- src/band.rt:35:9
 returns-2 : tie.Need-returns-2
 unfolding usable
 returns-2 c =
     let a = c .before .before .args in
     rw (le-leb 1 (a .rate-hz) (c .before .if1 .left), lt-leb (a .rate-hz) 1000 (c .if2 .taken))
 
--- src/band.rt:38:9
 returns-3 : tie.Need-returns-3
 unfolding usable
 returns-3 c =
     let a = c .before .before .before .before .args in
     rw (le-leb 1 (a .rate-hz) (c .before .before .before .if1 .left), le-leb (a .rate-hz) 1000 (c .before .before .if2 .left), lt-leb 1 (a .band .«lo_mhz») (c .if3 .taken))
 
--- src/band.rt:28:1
 returns-4 : tie.Need-returns-4
 unfolding usable
 returns-4 c =

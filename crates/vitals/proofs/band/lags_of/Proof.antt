@@ -1,50 +1,39 @@
 -- `lags_of` meets its contract. Assumes nothing.
 use mathlib.Core.Path.{_≡_}
-use Prim.Native.Nat.{ℕ, _+_, _-_, _*_, _/_, max}
+use Prim.Native.Nat.{_-_, _*_, _/_, max}
 use native.Mathlib.Omega.{arith}
 use Rattle.vitals.proofs.Facts.{usable-facts}
 use borrow.Author.Needs.{needs}
 use Rattle.vitals.proofs.band.lags_of.Statement.{statement}
 use Rattle.vitals.proofs.band.lags_of.Tie as tie
-use Rattle.vitals.proofs.band.lags_of.Reads as reads
-use Rattle.vitals.proofs.band.lags_of.Lts as lts
 
--- src/band.rt:48:19
 mul-samples : tie.Need-mul-samples
 mul-samples c = omega (arith, usable-facts (c .args .band) (c .args .rate-hz) (c .pre))
 
--- src/band.rt:49:31
 cast-shortest : tie.Need-cast-shortest
 cast-shortest c = search needs
 
--- src/band.rt:49:20
 div-shortest : tie.Need-div-shortest
 div-shortest c = omega (arith, usable-facts (c .before .args .band) (c .before .args .rate-hz) (c .before .pre))
 
--- src/band.rt:50:19
 cast-longest : tie.Need-cast-longest
 cast-longest c = search needs
 
--- src/band.rt:51:26
 sub-hi : tie.Need-sub-hi
 sub-hi c = omega (arith, usable-facts (c .before .before .args .band) (c .before .before .args .rate-hz) (c .before .before .pre))
 
--- src/band.rt:51:15
 add-hi : tie.Need-add-hi
 add-hi c = omega (arith, usable-facts (c .before .before .args .band) (c .before .before .args .rate-hz) (c .before .before .pre))
 
--- src/band.rt:51:14
 div-hi : tie.Need-div-hi
 div-hi c = omega (arith, usable-facts (c .before .before .args .band) (c .before .before .args .rate-hz) (c .before .before .pre))
 
--- src/band.rt:44:1
 returns : tie.Need-returns
 returns c =
     let a = c .before .before .before .args in
     let e : 2 ≡ max 2 (a .rate-hz * 1000 / a .band .«hi_mhz») = omega (arith, c .if1 .taken) in
     rw (← e)
 
--- src/band.rt:44:1
 returns-2 : tie.Need-returns-2
 returns-2 c =
     let a = c .before .before .before .args in

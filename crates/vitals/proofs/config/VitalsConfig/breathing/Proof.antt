@@ -2,15 +2,10 @@
 use borrow.Author.Needs.{needs}
 use Rattle.vitals.proofs.config.VitalsConfig.breathing.Statement.{statement}
 use Rattle.vitals.proofs.config.VitalsConfig.breathing.Tie as tie
-use Rattle.vitals.proofs.config.VitalsConfig.breathing.Reads as reads
-use Rattle.vitals.proofs.config.VitalsConfig.breathing.Lts as lts
-use Rattle.vitals.proofs.config.low16.Reads as low16-reads
 
--- src/config.rt:31:20
 low16-requires : tie.Need-low16-requires
 low16-requires c κs = search needs
 
--- src/config.rt:27:5
 returns : tie.Need-returns
 returns c = rw (c .low16 .ensures)
 

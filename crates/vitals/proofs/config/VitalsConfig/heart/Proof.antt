@@ -2,15 +2,10 @@
 use borrow.Author.Needs.{needs}
 use Rattle.vitals.proofs.config.VitalsConfig.heart.Statement.{statement}
 use Rattle.vitals.proofs.config.VitalsConfig.heart.Tie as tie
-use Rattle.vitals.proofs.config.VitalsConfig.heart.Reads as reads
-use Rattle.vitals.proofs.config.VitalsConfig.heart.Lts as lts
-use Rattle.vitals.proofs.config.low16.Reads as low16-reads
 
--- src/config.rt:48:20
 low16-requires : tie.Need-low16-requires
 low16-requires c κs = search needs
 
--- src/config.rt:44:5
 returns : tie.Need-returns
 returns c = rw (c .low16 .ensures)
 

@@ -1,8 +1,8 @@
 -- `add_lags` meets its contract: the lags below `lag` are done, those from it on are as they were. Assumes nothing.
-use mathlib.Core.Path.{_≡_, refl, sym, ap, _∙_}
+use mathlib.Core.Path.{_≡_, refl, _∙_}
 use Prim.Native.Nat.{ℕ, _+_, _-_, _*_, _≤_, _<_}
 use native.Mathlib.Omega.{arith}
-use borrow.Author.Needs.{needs, sfits-of}
+use borrow.Author.Needs.{sfits-of}
 use lib.ListN.{length, take, length-set}
 use lib.Seq.{getD-set-other}
 use lib.IntN.{ℤ, pos, natAbs, _+ℤ_}
@@ -18,10 +18,6 @@ use Rattle.vitals.specs.Steps.{Within}
 use Rattle.vitals.proofs.Lagged.{corr-size}
 use Rattle.vitals.proofs.steps.correlation.add_lags.Statement.{statement}
 use Rattle.vitals.proofs.steps.correlation.add_lags.Tie as tie
-use Rattle.vitals.proofs.steps.correlation.add_lags.Reads as reads
-use Rattle.vitals.proofs.steps.correlation.add_lags.Lts as lts
-use Rattle.vitals.proofs.steps.correlation.corr_at.Reads as corr-at-reads
-use Rattle.vitals.proofs.steps.correlation.plus_corr.Reads as plus-corr-reads
 
 abbrev Inv-loop : tie.InvT-loop
 Inv-loop x n energy summed₀ hi used lag₀ lag-end summed lag =
@@ -32,7 +28,6 @@ Inv-loop x n energy summed₀ hi used lag₀ lag-end summed lag =
 abbrev μ-loop : tie.MeasureT-loop
 μ-loop x n energy summed₀ hi used lag₀ lag-end summed lag = hi + 2 - lag
 
--- src/steps/correlation.rt:149:19
 -- the sum that is stored
 module _ (c : tie.After-plus-corr Inv-loop μ-loop) where
   stored-sum :
@@ -56,7 +51,6 @@ module _ (c : tie.After-plus-corr Inv-loop μ-loop) where
 add-lag-end : tie.Need-add-lag-end Inv-loop μ-loop
 add-lag-end c = omega arith
 
--- src/steps/correlation.rt:149:5
 loop-holds : tie.Need-loop-holds Inv-loop μ-loop
 loop-holds c = (
   omega arith,
@@ -69,21 +63,17 @@ loop-holds c = (
   refl,
 )
 
--- src/steps/correlation.rt:150:33
 mul-plus-corr : tie.Need-mul-plus-corr Inv-loop μ-loop
 mul-plus-corr c = omega arith
 
--- src/steps/correlation.rt:150:33
 slice-copy-out-plus-corr : tie.Need-slice-copy-out-plus-corr Inv-loop μ-loop
 slice-copy-out-plus-corr c = omega arith
 
--- src/steps/correlation.rt:150:46
 corr-at-requires : tie.Need-corr-at-requires Inv-loop μ-loop
 corr-at-requires c κs =
     let p = c .before .before .before .pre .0 in
     (p .0, omega arith, p .2, p .3, p .4, p .5)
 
--- src/steps/correlation.rt:150:23
 plus-corr-requires : tie.Need-plus-corr-requires Inv-loop μ-loop
 plus-corr-requires c κs =
     let l = c .before .before .before .loop in (
@@ -91,23 +81,18 @@ plus-corr-requires c κs =
       rw (toZ-ofZ (sfits-of (c .corr-at .ok))) (c .corr-at .ensures .1),
     )
 
--- src/steps/correlation.rt:150:9
 mul-t15 : tie.Need-mul-t15 Inv-loop μ-loop
 mul-t15 c = omega arith
 
--- src/steps/correlation.rt:150:9
 slice-set-from-summed : tie.Need-slice-set-from-summed Inv-loop μ-loop
 slice-set-from-summed c = omega arith
 
--- src/steps/correlation.rt:149:9
 add-lag : tie.Need-add-lag Inv-loop μ-loop
 add-lag c = omega arith
 
--- src/steps/correlation.rt:149:5
 loop-less : tie.Need-loop-less Inv-loop μ-loop
 loop-less c = omega arith
 
--- src/steps/correlation.rt:149:5
 loop-again : tie.Need-loop-again Inv-loop μ-loop
 loop-again c =
     let l = c .before .before .before .before .loop in
@@ -122,11 +107,9 @@ loop-again c =
       getD-set-other (l .summed) (l .lag) 0 _ (pos 0) (λ e. omega arith) ∙ l .inv .7,
     )
 
--- src/steps/correlation.rt:144:1
 same-length : tie.Need-same-length Inv-loop μ-loop
 same-length c = omega arith
 
--- src/steps/correlation.rt:144:1
 returns : tie.Need-returns Inv-loop μ-loop
 returns c =
     let inv = c .before .loop .inv in

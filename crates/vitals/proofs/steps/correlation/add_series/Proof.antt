@@ -1,28 +1,20 @@
 -- `add_series` meets its contract. Assumes nothing.
-use mathlib.Core.Path.{_≡_, refl, sym, ap, _∙_}
-use Prim.Native.Nat.{ℕ, _+_, _*_, _≤_, _<_}
+use mathlib.Core.Path.{refl, sym, _∙_}
+use Prim.Native.Nat.{_≤_}
 use native.Mathlib.Omega.{arith}
-use lib.ListN.{length, take}
 use borrow.Author.Needs.{needs}
 use Rattle.vitals.proofs.steps.correlation.add_series.Statement.{statement}
 use Rattle.vitals.proofs.steps.correlation.add_series.Tie as tie
-use Rattle.vitals.proofs.steps.correlation.add_series.Reads as reads
-use Rattle.vitals.proofs.steps.correlation.add_series.Lts as lts
-use Rattle.vitals.proofs.steps.correlation.add_lags.Reads as add-lags-reads
-use Rattle.vitals.proofs.steps.correlation.energy_of.Reads as energy-of-reads
 
--- src/steps/correlation.rt:159:9
 energy-of-requires : tie.Need-energy-of-requires
 energy-of-requires c κs = search needs
 
--- src/steps/correlation.rt:161:9
 returns : tie.Need-returns
 returns c =
     let start = c .before .before in
     let none = sym (c .before .energy-of .ensures .0) ∙ c .if1 .taken in
     record { none = λ e. (refl, refl); some = λ f. absurd (f none); size = start .pre .5 }
 
--- src/steps/correlation.rt:163:5
 add-lags-requires : tie.Need-add-lags-requires
 add-lags-requires c κs =
     let p = c .before .before .before .pre in
@@ -30,15 +22,12 @@ add-lags-requires c κs =
     let some : 1 ≤ c .before .before .energy-of .result = omega (arith, c .before .if1 .left) in
     ((p .0, p .1, p .2, e .0, some, e .1), (p .3, p .4, p .5))
 
--- src/steps/correlation.rt:164:5
 add-result : tie.Need-add-result
 add-result c = search needs
 
--- src/steps/correlation.rt:155:1
 same-length : tie.Need-same-length
 same-length c = search needs
 
--- src/steps/correlation.rt:155:1
 returns-2 : tie.Need-returns-2
 returns-2 c =
     let some = c .before .before .before .if1 .left in

@@ -1,15 +1,12 @@
 -- `clamp_2000` meets its contract. Assumes nothing.
 use mir.Facts.{toZ-ofZ}
-use mathlib.Core.Path.{_≡_, refl, _∙_}
+use mathlib.Core.Path.{refl, _∙_}
 use native.Mathlib.Omega.{arith}
-use lib.IntN.{ℤ}
 use mir.Syntax.{w32, w64}
 use mir.Val.{SFits, toZ, ofZ}
 use Rattle.num.proofs.Clamp.{inside, kept}
 use Rattle.vitals.proofs.steps.correlation.clamp_2000.Statement.{statement}
 use Rattle.vitals.proofs.steps.correlation.clamp_2000.Tie as tie
-use Rattle.vitals.proofs.steps.correlation.clamp_2000.Reads as reads
-use Rattle.vitals.proofs.steps.correlation.clamp_2000.Lts as lts
 
 fits : (c : tie.Else2) → SFits w32 (toZ w64 (ofZ w64 (c .before .before .args .z)))
 fits c = record { sfits = omega (arith, inside 1999 2000 (toZ w64 (ofZ w64 (c .before .before .args .z))) (c .before .if1 .left) (c .if2 .left)) }

@@ -1,35 +1,26 @@
 -- `corr_at` meets its contract. Assumes nothing.
-use mathlib.Core.Path.{_≡_, refl, sym, ap, _∙_}
-use Prim.Native.Nat.{ℕ, _+_, _≤_, _<_}
+use mathlib.Core.Path.{_≡_, _∙_}
 use native.Mathlib.Omega.{arith}
 use borrow.Author.Needs.{needs, sfits-of}
-use lib.ListN.{length, take, length-take}
+use lib.ListN.{length, take}
 use lib.Seq.{length-take-le}
-use lib.IntN.{ℤ, natAbs}
-use mir.Syntax.{w32, w64}
+use mir.Syntax.{w32}
 use mir.Val.{toZ, ofZ}
 use mir.Facts.{toZ-ofZ}
 use Rattle.vitals.proofs.Lagged.{corr-size}
-use Rattle.vitals.specs.Correlation.{energy, lagged, rhoOf, corrOf}
+use Rattle.vitals.specs.Correlation.{lagged, corrOf}
 use borrow.Author.Needs.{needs}
 use Rattle.vitals.proofs.steps.correlation.corr_at.Statement.{statement}
 use Rattle.vitals.proofs.steps.correlation.corr_at.Tie as tie
-use Rattle.vitals.proofs.steps.correlation.corr_at.Reads as reads
-use Rattle.vitals.proofs.steps.correlation.corr_at.Lts as lts
-use Rattle.vitals.proofs.steps.correlation.lagged.Reads as lagged-reads
-use Rattle.vitals.proofs.steps.correlation.rho.Reads as rho-reads
 
--- src/steps/correlation.rt:132:9
 lagged-requires : tie.Need-lagged-requires
 lagged-requires c κs = search needs
 
--- src/steps/correlation.rt:132:5
 rho-requires : tie.Need-rho-requires
 rho-requires c κs =
     let p = c .before .pre in
     rw (toZ-ofZ (sfits-of (c .lagged .ok))) (c .lagged .ensures .1, p .4, p .5, p .1, p .0)
 
--- src/steps/correlation.rt:128:1
 returns : tie.Need-returns
 unfolding corrOf
 returns c =

@@ -1,10 +1,10 @@
 -- `dot_blocks` meets its contract: the sum so far is that of the first k products, and those past n are 0. Assumes nothing.
-use mathlib.Core.Path.{_≡_, refl, sym, ap, _∙_}
-use Prim.Native.Nat.{ℕ, _+_, _-_, _*_, _^_, _≤_, _<_}
+use mathlib.Core.Path.{_≡_, refl, sym, _∙_}
+use Prim.Native.Nat.{_+_, _-_, _<_}
 use native.Mathlib.Omega.{arith}
-use borrow.Author.Needs.{needs, sfits-of}
-use lib.ListN.{length, take}
-use lib.IntN.{ℤ, natAbs, _+ℤ_}
+use borrow.Author.Needs.{sfits-of}
+use lib.ListN.{take}
+use lib.IntN.{ℤ, _+ℤ_}
 use mir.Syntax.{w32}
 use mir.Val.{SFits, toZ, ofZ}
 use mir.Facts.{toZ-ofZ}
@@ -13,9 +13,6 @@ use Rattle.num.proofs.Abs.{sfits-abs}
 use Rattle.num.proofs.Dot.{dot-split, dot-cut}
 use Rattle.vitals.proofs.steps.correlation.dot_blocks.Statement.{statement}
 use Rattle.vitals.proofs.steps.correlation.dot_blocks.Tie as tie
-use Rattle.vitals.proofs.steps.correlation.dot_blocks.Reads as reads
-use Rattle.vitals.proofs.steps.correlation.dot_blocks.Lts as lts
-use Rattle.vitals.proofs.steps.correlation.block.Reads as block-reads
 
 abbrev Inv-loop : tie.InvT-loop
 Inv-loop a b n sum₀ k₀ sum k =
@@ -24,7 +21,6 @@ Inv-loop a b n sum₀ k₀ sum k =
 abbrev μ-loop : tie.MeasureT-loop
 μ-loop a b n sum₀ k₀ sum k = n - k
 
--- src/steps/correlation.rt:67:5
 module _ (c : tie.After-block Inv-loop μ-loop) where
   more : toZ w32 (c .before .before .loop .sum) +ℤ toZ w32 (ofZ w32 (c .block .result)) ≡ dotZ (take (c .before .before .loop .k + 32) (c .before .before .before .args .a .now)) (c .before .before .before .args .b .now)
   more =
@@ -40,29 +36,23 @@ loop-holds : tie.Need-loop-holds Inv-loop μ-loop
 unfolding dotZ
 loop-holds c = (omega arith, refl)
 
--- src/steps/correlation.rt:68:21
 block-requires : tie.Need-block-requires Inv-loop μ-loop
 block-requires c κs =
     let p = c .before .before .pre in
     (omega arith, omega arith, p .2)
 
--- src/steps/correlation.rt:68:15
 add-sum : tie.Need-add-sum Inv-loop μ-loop
 add-sum c = fits c
 
--- src/steps/correlation.rt:69:13
 add-k : tie.Need-add-k Inv-loop μ-loop
 add-k c = omega arith
 
--- src/steps/correlation.rt:67:5
 loop-less : tie.Need-loop-less Inv-loop μ-loop
 loop-less c = omega arith
 
--- src/steps/correlation.rt:67:5
 loop-again : tie.Need-loop-again Inv-loop μ-loop
 loop-again c = (omega arith, toZ-ofZ (fits c) ∙ more c)
 
--- src/steps/correlation.rt:61:1
 returns : tie.Need-returns Inv-loop μ-loop
 returns c =
     let start = c .before .before in

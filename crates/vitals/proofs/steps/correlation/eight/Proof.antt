@@ -1,35 +1,26 @@
 -- `eight` meets its contract: two sums of 4. Assumes nothing.
-use mathlib.Core.Path.{_≡_, refl, sym, ap, _∙_}
+use mathlib.Core.Path.{_∙_}
 use borrow.Author.Needs.{needs, sfits-of}
-use mir.Syntax.{w32}
 use mir.Facts.{toZ-ofZ}
 use Rattle.vitals.proofs.Doubled.{doubled-fits, doubled}
 use borrow.Author.Needs.{needs}
 use Rattle.vitals.proofs.steps.correlation.eight.Statement.{statement}
 use Rattle.vitals.proofs.steps.correlation.eight.Tie as tie
-use Rattle.vitals.proofs.steps.correlation.eight.Reads as reads
-use Rattle.vitals.proofs.steps.correlation.eight.Lts as lts
-use Rattle.vitals.proofs.steps.correlation.four.Reads as four-reads
 
--- src/steps/correlation.rt:40:5
 four-requires : tie.Need-four-requires
 four-requires c κs = search needs
 
--- src/steps/correlation.rt:40:32
 add-four : tie.Need-add-four
 add-four c = search needs
 
--- src/steps/correlation.rt:40:21
 four-requires-2 : tie.Need-four-requires-2
 four-requires-2 c κs = search needs
 
--- src/steps/correlation.rt:40:5
 add-result : tie.Need-add-result
 add-result c =
     let a = c .before .before .args in
     doubled-fits (a .a .now) (a .b .now) (c .before .before .pre .2) (a .k) 4 (toZ-ofZ (sfits-of (c .before .four .ok)) ∙ c .before .four .ensures) (toZ-ofZ (sfits-of (c .four2 .ok)) ∙ c .four2 .ensures)
 
--- src/steps/correlation.rt:36:1
 returns : tie.Need-returns
 returns c =
     let a = c .before .before .args in

@@ -1,14 +1,14 @@
 -- `energy_of` meets its contract. Assumes nothing.
-use mathlib.Core.Path.{_≡_, refl, sym, ap, _∙_}
-use Prim.Native.Nat.{ℕ, _+_, _-_, _*_, _^_, _≤_, _<_}
+use mathlib.Core.Path.{_≡_, refl, _∙_}
+use Prim.Native.Nat.{_-_}
 use native.Mathlib.Omega.{arith}
 use borrow.Author.Needs.{needs, sfits-of}
-use lib.ListN.{length, take, length-take}
-use lib.IntN.{ℤ, pos, natAbs}
+use lib.ListN.{take, length-take}
+use lib.IntN.{pos}
 use mir.Syntax.{w64}
-use mir.Val.{SFits, Fits, toZ, ofZ}
+use mir.Val.{toZ, ofZ}
 use mir.Facts.{toZ-ofZ}
-use Rattle.num.specs.Sum.{dotZ, maxTerms}
+use Rattle.num.specs.Sum.{maxTerms}
 use Rattle.num.proofs.Sum.{dot-first}
 use Rattle.num.proofs.Dot.{dot-self-pos}
 use Rattle.vitals.specs.Correlation.{energy}
@@ -16,9 +16,6 @@ use Rattle.vitals.proofs.Lagged.{energy-size}
 use borrow.Author.Needs.{needs}
 use Rattle.vitals.proofs.steps.correlation.energy_of.Statement.{statement}
 use Rattle.vitals.proofs.steps.correlation.energy_of.Tie as tie
-use Rattle.vitals.proofs.steps.correlation.energy_of.Reads as reads
-use Rattle.vitals.proofs.steps.correlation.energy_of.Lts as lts
-use Rattle.num.proofs.sum_sq_i16.Reads as sum-sq-i16-reads
 
 value : (c : tie.After-sum-sq-i16) → toZ w64 (ofZ w64 (c .sum-sq-i16 .result)) ≡ pos (energy (take (c .before .before .args .n) (c .before .before .args .x .now)))
 value c =
@@ -28,30 +25,24 @@ value c =
     let few = c .before .before .pre .0 in
     toZ-ofZ (sfits-of (c .sum-sq-i16 .ok)) ∙ c .sum-sq-i16 .ensures ∙ rw e (dot-first maxTerms s s (omega (arith, length-take (a .n) (a .x .now))) ∙ dot-self-pos s)
 
--- src/steps/correlation.rt:81:21
 sub-sum-sq-i16 : tie.Need-sub-sum-sq-i16
 sub-sum-sq-i16 c = search needs
 
--- src/steps/correlation.rt:81:21
 part-sum-sq-i16-start : tie.Need-part-sum-sq-i16-start
 part-sum-sq-i16-start c = search needs
 
--- src/steps/correlation.rt:81:21
 part-sum-sq-i16-end : tie.Need-part-sum-sq-i16-end
 part-sum-sq-i16-end c = search needs
 
--- src/steps/correlation.rt:81:5
 sum-sq-i16-requires : tie.Need-sum-sq-i16-requires
 sum-sq-i16-requires c κs = search needs
 
--- src/steps/correlation.rt:81:5
 cast-result : tie.Need-cast-result
 cast-result c =
     let a = c .before .before .args in
     let e = energy-size (a .n) (a .x .now) (c .before .before .pre .0) (c .before .before .pre .1) in
     rw (value c) (tt, record { fits = omega arith })
 
--- src/steps/correlation.rt:77:1
 returns : tie.Need-returns
 returns c =
     let a = c .before .before .args in

@@ -1,11 +1,9 @@
 -- `lagged` meets its contract, in blocks and by `num::dot_i16`. Assumes nothing.
-use mathlib.Core.Path.{_≡_, refl, sym, ap, _∙_}
-use mathlib.Core.List.{List}
-use Prim.Native.Nat.{ℕ, _+_, _-_, _*_, _^_, _≤_, _<_}
+use mathlib.Core.Path.{_≡_, refl, ap, _∙_}
+use Prim.Native.Nat.{_-_, _≤_}
 use native.Mathlib.Omega.{arith}
 use borrow.Author.Needs.{needs, sfits-of}
 use lib.ListN.{length, take, drop, length-take, length-drop}
-use lib.IntN.{ℤ, natAbs}
 use mir.Syntax.{w32, w64}
 use mir.Val.{SFits, toZ, ofZ}
 use mir.Facts.{toZ-ofZ, sfits-widen}
@@ -17,32 +15,22 @@ use Rattle.vitals.proofs.Lagged.{rest, sums-fit, zeros-from, lagged-siz
 use borrow.Author.Needs.{needs}
 use Rattle.vitals.proofs.steps.correlation.lagged.Statement.{statement}
 use Rattle.vitals.proofs.steps.correlation.lagged.Tie as tie
-use Rattle.vitals.proofs.steps.correlation.lagged.Reads as reads
-use Rattle.vitals.proofs.steps.correlation.lagged.Lts as lts
-use Rattle.num.proofs.dot_i16.Reads as dot-i16-reads
-use Rattle.vitals.proofs.steps.correlation.dot_blocks.Reads as dot-blocks-reads
 
--- src/steps/correlation.rt:93:30
 mul-dot-blocks : tie.Need-mul-dot-blocks
 mul-dot-blocks c = search needs
 
--- src/steps/correlation.rt:93:30
 sub-dot-blocks : tie.Need-sub-dot-blocks
 sub-dot-blocks c = search needs
 
--- src/steps/correlation.rt:93:30
 part-dot-blocks-start : tie.Need-part-dot-blocks-start
 part-dot-blocks-start c = search needs
 
--- src/steps/correlation.rt:93:30
 part-dot-blocks-end : tie.Need-part-dot-blocks-end
 part-dot-blocks-end c = search needs
 
--- src/steps/correlation.rt:93:41
 sub-dot-blocks-2 : tie.Need-sub-dot-blocks-2
 sub-dot-blocks-2 c = search needs
 
--- src/steps/correlation.rt:93:16
 dot-blocks-requires : tie.Need-dot-blocks-requires
 dot-blocks-requires c κs =
     let start = c .before .before in
@@ -52,11 +40,9 @@ dot-blocks-requires c κs =
     let e : energy (take (a .n) x) ≤ 2147483647 = omega (arith, start .pre .3, c .before .if1 .taken) in
     rw (rest x (a .lag)) (omega (arith, pad .long), omega (arith, pad .long, length-drop (a .lag) x), sums-fit (a .n) x pad (a .lag) e, zeros-from (a .n) x pad (a .lag) (omega arith))
 
--- src/steps/correlation.rt:93:16
 cast-result : tie.Need-cast-result
 cast-result c = let f : SFits w32 (c .dot-blocks .result) = sfits-of (c .dot-blocks .ok) in rw (toZ-ofZ f) (sfits-widen tt f)
 
--- src/steps/correlation.rt:93:9
 returns : tie.Need-returns
 returns c =
     let start = c .before .before .before in
@@ -67,43 +53,33 @@ returns c =
     c .dot-blocks .ensures ∙ ap (dotZ (take (a .n - a .lag) x)) (rest x (a .lag)) ∙ dot-front (a .n) (a .lag) x (omega arith) in
     rw (toZ-ofZ f, read-32-64 f, e) (refl, omega (arith, lagged-size (take (a .n) x) (a .lag), energy-size (a .n) x (start .pre .0) (start .pre .2)))
 
--- src/steps/correlation.rt:95:24
 sub-dot-i16 : tie.Need-sub-dot-i16
 sub-dot-i16 c = search needs
 
--- src/steps/correlation.rt:95:18
 sub-dot-i16-2 : tie.Need-sub-dot-i16-2
 sub-dot-i16-2 c = search needs
 
--- src/steps/correlation.rt:95:18
 part-dot-i16-start : tie.Need-part-dot-i16-start
 part-dot-i16-start c = search needs
 
--- src/steps/correlation.rt:95:18
 part-dot-i16-end : tie.Need-part-dot-i16-end
 part-dot-i16-end c = search needs
 
--- src/steps/correlation.rt:95:34
 mul-dot-i16 : tie.Need-mul-dot-i16
 mul-dot-i16 c = search needs
 
--- src/steps/correlation.rt:95:34
 sub-dot-i16-3 : tie.Need-sub-dot-i16-3
 sub-dot-i16-3 c = search needs
 
--- src/steps/correlation.rt:95:34
 part-dot-i16-start-2 : tie.Need-part-dot-i16-start-2
 part-dot-i16-start-2 c = search needs
 
--- src/steps/correlation.rt:95:34
 part-dot-i16-end-2 : tie.Need-part-dot-i16-end-2
 part-dot-i16-end-2 c = search needs
 
--- src/steps/correlation.rt:95:5
 dot-i16-requires : tie.Need-dot-i16-requires
 dot-i16-requires c κs = search needs
 
--- src/steps/correlation.rt:88:1
 returns-2 : tie.Need-returns-2
 returns-2 c =
     let start = c .before .before .before .before in

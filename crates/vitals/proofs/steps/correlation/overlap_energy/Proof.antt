@@ -1,12 +1,10 @@
 -- `overlap_energy` meets its contract. Assumes nothing.
-use mathlib.Core.Path.{_≡_, refl}
+use mathlib.Core.Path.{refl}
 use Prim.Native.Nat.{ℕ, _≤_, _*_}
 use native.Mathlib.Nat.{mul-le-mul}
 use native.Mathlib.Omega.{arith}
 use Rattle.vitals.proofs.steps.correlation.overlap_energy.Statement.{statement}
 use Rattle.vitals.proofs.steps.correlation.overlap_energy.Tie as tie
-use Rattle.vitals.proofs.steps.correlation.overlap_energy.Reads as reads
-use Rattle.vitals.proofs.steps.correlation.overlap_energy.Lts as lts
 
 most : (t e : ℕ) → t ≤ 512 → e ≤ 549755813888 → t * e ≤ 281474976710656
 most t e a b = omega (arith, mul-le-mul a b)
@@ -14,11 +12,9 @@ most t e a b = omega (arith, mul-le-mul a b)
 least : (t e : ℕ) → 1 ≤ t → 1 ≤ e → 1 ≤ t * e
 least t e a b = omega (arith, mul-le-mul a b)
 
--- src/rate.rt:35:5
 mul-result : tie.Need-mul-result
 mul-result c = record { fits = omega (arith, most (c .args .terms) (c .args .energy) (c .pre .3) (c .pre .1)) }
 
--- src/rate.rt:31:1
 returns : tie.Need-returns
 returns c =
     (refl, least (c .args .terms) (c .args .energy) (c .pre .2) (c .pre .0), most (c .args .terms) (c .args .energy) (c .pre .3) (c .pre .1))

@@ -1,7 +1,7 @@
 -- `plus_corr` meets its contract. Assumes nothing.
 use mir.Facts.{toZ-ofZ}
 use Rattle.num.proofs.Abs.{sfits-abs, abs-add}
-use mathlib.Core.Path.{_≡_, refl}
+use mathlib.Core.Path.{_≡_}
 use Prim.Native.Nat.{_≤_}
 use native.Mathlib.Omega.{arith}
 use lib.IntN.{ℤ, natAbs, _+ℤ_}
@@ -9,8 +9,6 @@ use mir.Syntax.{w32}
 use mir.Val.{SFits, toZ, ofZ}
 use Rattle.vitals.proofs.steps.correlation.plus_corr.Statement.{statement}
 use Rattle.vitals.proofs.steps.correlation.plus_corr.Tie as tie
-use Rattle.vitals.proofs.steps.correlation.plus_corr.Reads as reads
-use Rattle.vitals.proofs.steps.correlation.plus_corr.Lts as lts
 
 module _ (s v : ℤ) (hs : natAbs s ≤ 128000) (hv : natAbs v ≤ 2000) where
   fits : SFits w32 (s +ℤ v)

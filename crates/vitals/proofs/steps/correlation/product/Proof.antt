@@ -1,12 +1,12 @@
 -- `product` meets its contract: a product of two samples fits. Assumes nothing.
-use mathlib.Core.Path.{_≡_, refl, sym, ap, _∙_}
-use Prim.Native.Nat.{ℕ, _+_, _*_, _^_, _≤_, _<_}
+use mathlib.Core.Path.{sym}
+use Prim.Native.Nat.{_*_}
 use native.Mathlib.Omega.{arith}
 use borrow.Author.Needs.{needs, sfits-of}
-use lib.ListN.{length, getD}
-use lib.IntN.{ℤ, pos, natAbs, _*ℤ_}
+use lib.ListN.{getD}
+use lib.IntN.{ℤ, pos, _*ℤ_}
 use mir.Syntax.{w16, w32}
-use mir.Val.{SFits, toZ, ofZ}
+use mir.Val.{SFits}
 use mir.Facts.{toZ-ofZ, sfits-widen}
 use Rattle.num.proofs.Abs.{sfits-abs, abs-sfits, abs-mul, mul-le}
 use Rattle.num.proofs.Dot.{part-one}
@@ -14,8 +14,6 @@ use Rattle.num.proofs.Read.{read-16-32}
 use borrow.Author.Needs.{needs}
 use Rattle.vitals.proofs.steps.correlation.product.Statement.{statement}
 use Rattle.vitals.proofs.steps.correlation.product.Tie as tie
-use Rattle.vitals.proofs.steps.correlation.product.Reads as reads
-use Rattle.vitals.proofs.steps.correlation.product.Lts as lts
 
 fits-a : (c : tie.After-result) → SFits w16 (getD (c .before .args .a .now) (c .before .args .k) (pos 0))
 fits-a c = sfits-of (c .result .given)
@@ -29,35 +27,27 @@ product-fits c =
     let x = getD (a .a .now) (a .k) (pos 0) in let y = getD (a .b .now) (a .k) (pos 0) in
     sfits-abs {w = w32} (x *ℤ y) (omega (arith, abs-mul x y, mul-le (abs-sfits x (fits-a (c .before))) (abs-sfits y (fits-b c))))
 
--- src/steps/correlation.rt:19:6
 mul-result : tie.Need-mul-result
 mul-result c = search needs
 
--- src/steps/correlation.rt:19:6
 shared-slice-copy-out-result : tie.Need-shared-slice-copy-out-result
 shared-slice-copy-out-result c = search needs
 
--- src/steps/correlation.rt:19:6
 cast-result : tie.Need-cast-result
 cast-result c = let f = fits-a c in rw (toZ-ofZ f) (sfits-widen tt f)
 
--- src/steps/correlation.rt:19:22
 mul-result-2 : tie.Need-mul-result-2
 mul-result-2 c = search needs
 
--- src/steps/correlation.rt:19:22
 shared-slice-copy-out-result-2 : tie.Need-shared-slice-copy-out-result-2
 shared-slice-copy-out-result-2 c = search needs
 
--- src/steps/correlation.rt:19:22
 cast-result-2 : tie.Need-cast-result-2
 cast-result-2 c = let f = fits-b c in rw (toZ-ofZ f) (sfits-widen tt f)
 
--- src/steps/correlation.rt:19:5
 mul-result-3 : tie.Need-mul-result-3
 mul-result-3 c = rw (toZ-ofZ (fits-a (c .before)), read-16-32 (fits-a (c .before)), toZ-ofZ (fits-b c), read-16-32 (fits-b c)) (product-fits c)
 
--- src/steps/correlation.rt:15:1
 returns : tie.Need-returns
 returns c =
     let a = c .before .before .args in

@@ -1,8 +1,8 @@
 -- `rho` meets its contract: 2^39 · 1000 · 512 is below 2^63. Assumes nothing.
 use mir.Facts.{toZ-ofZ, toZ-pos}
 use Rattle.num.proofs.Abs.{sfits-abs, abs-mul, abs-quot}
-use mathlib.Core.Path.{_≡_, refl, ap, _∙_}
-use Prim.Native.Nat.{ℕ, _≤_, _<_, _*_, _-_, _/_}
+use mathlib.Core.Path.{_≡_, ap, _∙_}
+use Prim.Native.Nat.{ℕ, _≤_, _*_, _-_}
 use native.Mathlib.Nat.{mul-le-mul, div-le-self}
 use native.Mathlib.Omega.{arith}
 use lib.IntN.{ℤ, pos, negsuc, natAbs, _*ℤ_}
@@ -10,14 +10,9 @@ use lib.Signed.{quotZ}
 use mir.Syntax.{w32, w64}
 use mir.Val.{SFits, toZ, ofZ}
 use Rattle.num.specs.Clamp.{clampZ}
-use Rattle.vitals.specs.Correlation.{rhoOf}
 use borrow.Author.Needs.{needs, sfits-of}
 use Rattle.vitals.proofs.steps.correlation.rho.Statement.{statement}
 use Rattle.vitals.proofs.steps.correlation.rho.Tie as tie
-use Rattle.vitals.proofs.steps.correlation.rho.Reads as reads
-use Rattle.vitals.proofs.steps.correlation.rho.Lts as lts
-use Rattle.vitals.proofs.steps.correlation.clamp_2000.Reads as clamp-2000-reads
-use Rattle.vitals.proofs.steps.correlation.overlap_energy.Reads as overlap-energy-reads
 
 module _ (r : ℤ) (n d : ℕ) (hr : natAbs r ≤ 549755813888) (hn : n ≤ 512) (hd : d ≤ 281474976710656) where
   self : toZ w64 (ofZ w64 r) ≡ r
@@ -44,39 +39,30 @@ module _ (r : ℤ) (n d : ℕ) (hr : natAbs r ≤ 549755813888) (hn : n ≤ 512)
   quot : quotZ (toZ w64 (ofZ w64 (toZ w64 (ofZ w64 (toZ w64 (ofZ w64 r) *ℤ pos 1000)) *ℤ toZ w64 n))) (toZ w64 d) ≡ quotZ (r *ℤ pos 1000 *ℤ pos n) (pos d)
   quot = rw (top, toZ-ofZ {w = w64} fits-top, toZ-pos w64 {n = d} (omega arith))
 
--- src/rate.rt:27:42
 sub-overlap-energy : tie.Need-sub-overlap-energy
 sub-overlap-energy c = search needs
 
--- src/rate.rt:27:9
 overlap-energy-requires : tie.Need-overlap-energy-requires
 overlap-energy-requires c κs = search needs
 
--- src/rate.rt:28:16
 mul-clamp-2000 : tie.Need-mul-clamp-2000
 mul-clamp-2000 c = rw (self (c .before .args .r) (c .before .args .n) (c .overlap-energy .result) (c .before .pre .0) (c .before .pre .4) (c .overlap-energy .ensures .2)) (fits-thousand (c .before .args .r) (c .before .args .n) (c .overlap-energy .result) (c .before .pre .0) (c .before .pre .4) (c .overlap-energy .ensures .2))
 
--- src/rate.rt:28:28
 cast-clamp-2000 : tie.Need-cast-clamp-2000
 cast-clamp-2000 c = search needs
 
--- src/rate.rt:28:16
 mul-clamp-2000-2 : tie.Need-mul-clamp-2000-2
 mul-clamp-2000-2 c = rw (top (c .before .args .r) (c .before .args .n) (c .overlap-energy .result) (c .before .pre .0) (c .before .pre .4) (c .overlap-energy .ensures .2)) (fits-top (c .before .args .r) (c .before .args .n) (c .overlap-energy .result) (c .before .pre .0) (c .before .pre .4) (c .overlap-energy .ensures .2))
 
--- src/rate.rt:28:41
 cast-clamp-2000-2 : tie.Need-cast-clamp-2000-2
 cast-clamp-2000-2 c = search needs
 
--- src/rate.rt:28:16
 div-clamp-2000 : tie.Need-div-clamp-2000
 div-clamp-2000 c = (omega arith, rw (quot (c .before .args .r) (c .before .args .n) (c .overlap-energy .result) (c .before .pre .0) (c .before .pre .4) (c .overlap-energy .ensures .2)) (fits-quot (c .before .args .r) (c .before .args .n) (c .overlap-energy .result) (c .before .pre .0) (c .before .pre .4) (c .overlap-energy .ensures .2)))
 
--- src/rate.rt:28:5
 clamp-2000-requires : tie.Need-clamp-2000-requires
 clamp-2000-requires c κs = search needs
 
--- src/rate.rt:23:1
 returns : tie.Need-returns
 returns c =
     let a = c .before .before .args in

@@ -1,35 +1,26 @@
 -- `two` meets its contract: two sums of 1. Assumes nothing.
-use mathlib.Core.Path.{_≡_, refl, sym, ap, _∙_}
+use mathlib.Core.Path.{_∙_}
 use borrow.Author.Needs.{needs, sfits-of}
-use mir.Syntax.{w32}
 use mir.Facts.{toZ-ofZ}
 use Rattle.vitals.proofs.Doubled.{doubled-fits, doubled}
 use borrow.Author.Needs.{needs}
 use Rattle.vitals.proofs.steps.correlation.two.Statement.{statement}
 use Rattle.vitals.proofs.steps.correlation.two.Tie as tie
-use Rattle.vitals.proofs.steps.correlation.two.Reads as reads
-use Rattle.vitals.proofs.steps.correlation.two.Lts as lts
-use Rattle.vitals.proofs.steps.correlation.product.Reads as product-reads
 
--- src/steps/correlation.rt:26:5
 product-requires : tie.Need-product-requires
 product-requires c κs = search needs
 
--- src/steps/correlation.rt:26:38
 add-product : tie.Need-add-product
 add-product c = search needs
 
--- src/steps/correlation.rt:26:24
 product-requires-2 : tie.Need-product-requires-2
 product-requires-2 c κs = search needs
 
--- src/steps/correlation.rt:26:5
 add-result : tie.Need-add-result
 add-result c =
     let a = c .before .before .args in
     doubled-fits (a .a .now) (a .b .now) (c .before .before .pre .2) (a .k) 1 (toZ-ofZ (sfits-of (c .before .product .ok)) ∙ c .before .product .ensures) (toZ-ofZ (sfits-of (c .product2 .ok)) ∙ c .product2 .ensures)
 
--- src/steps/correlation.rt:22:1
 returns : tie.Need-returns
 returns c =
     let a = c .before .before .args in

@@ -1,5 +1,5 @@
 -- `divide` meets its contract: the product fits, and its upper bits are the quotient. Assumes nothing.
-use mathlib.Core.Path.{_≡_, sym, ap, _∙_}
+use mathlib.Core.Path.{_≡_}
 use Prim.Native.Nat.{ℕ, _+_, _*_, _/_, _^_, _≤_, _<_}
 use native.Mathlib.Nat.{div-le-self, div-le-of-le-mul, mul-le-mul}
 use native.Mathlib.Omega.{arith}
@@ -7,8 +7,6 @@ use Rattle.num.proofs.Ratio.{recip-below, recip-div}
 use Rattle.vitals.specs.Steps.{inverse}
 use Rattle.vitals.proofs.steps.divide.divide.Statement.{statement}
 use Rattle.vitals.proofs.steps.divide.divide.Tie as tie
-use Rattle.vitals.proofs.steps.divide.divide.Reads as reads
-use Rattle.vitals.proofs.steps.divide.divide.Lts as lts
 
 -- a mean of numbers of 16 bits, over at most 32,767 of them
 module _ (d x : ℕ) (some : 1 ≤ d) (few : d ≤ 32767) (small : x ≤ d * 65535) where

@@ -1,22 +1,17 @@
 -- `divisor_by` meets its contract. Assumes nothing.
-use Prim.Native.Nat.{_/_, _^_}
+use Prim.Native.Nat.{_^_}
 use native.Mathlib.Nat.{div-le-self}
 use native.Mathlib.Omega.{arith}
 use borrow.Author.Needs.{needs}
 use Rattle.vitals.proofs.steps.divide.divisor_by.Statement.{statement}
 use Rattle.vitals.proofs.steps.divide.divisor_by.Tie as tie
-use Rattle.vitals.proofs.steps.divide.divisor_by.Reads as reads
-use Rattle.vitals.proofs.steps.divide.divisor_by.Lts as lts
 
--- src/steps/divide.rt:21:17
 div-t3 : tie.Need-div-t3
 div-t3 c = search needs
 
--- src/steps/divide.rt:21:17
 add-t4 : tie.Need-add-t4
 add-t4 c = omega (arith, div-le-self (2 ^ 46) (c .args .by))
 
--- src/steps/divide.rt:15:1
 returns : tie.Need-returns
 returns c = search needs
 

@@ -1,29 +1,22 @@
 -- `divisor_for` meets its contract. Assumes nothing.
-use mathlib.Core.Path.{_≡_, sym, ap, _∙_}
-use Prim.Native.Nat.{ℕ}
+use mathlib.Core.Path.{_≡_, ap, _∙_}
 use Rattle.vitals.specs.Steps.{inverse, divisorOf}
 use Rattle.vitals.specs.declared.steps.divide.Divisor.{Divisor}
 use borrow.Author.Needs.{needs}
 use Rattle.vitals.proofs.steps.divide.divisor_for.Statement.{statement}
 use Rattle.vitals.proofs.steps.divide.divisor_for.Tie as tie
-use Rattle.vitals.proofs.steps.divide.divisor_for.Reads as reads
-use Rattle.vitals.proofs.steps.divide.divisor_for.Lts as lts
-use Rattle.vitals.proofs.steps.divide.divisor_by.Reads as divisor-by-reads
 
 whole : (d : Divisor) → d .factor ≡ inverse (d .by) → d ≡ divisorOf (d .by)
 whole d e = rw (← e)
 
--- src/steps/divide.rt:31:9
 returns : tie.Need-returns
 returns c =
     let d = c .before .before .args .d in
     whole d (c .before .before .pre .0 .factor) ∙ ap divisorOf (c .if1 .taken)
 
--- src/steps/divide.rt:33:5
 divisor-by-requires : tie.Need-divisor-by-requires
 divisor-by-requires c κs = search needs
 
--- src/steps/divide.rt:26:1
 returns-2 : tie.Need-returns-2
 returns-2 c = search needs
 

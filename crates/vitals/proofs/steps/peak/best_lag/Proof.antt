@@ -1,43 +1,32 @@
 -- `best_lag` meets its contract: what the three calls ensure, put together. Assumes nothing.
 use mir.Facts.{toZ-ofZ}
-use mathlib.Core.Path.{_≡_, sym, ap, _∙_}
-use Prim.Native.Nat.{ℕ, _≤_}
-use lib.IntN.{ℤ, natAbs}
+use mathlib.Core.Path.{ap, _∙_}
+use Prim.Native.Nat.{ℕ}
+use lib.IntN.{ℤ}
 use mir.Syntax.{w32}
 use Rattle.vitals.specs.Series.{at}
 use Rattle.vitals.specs.Peak.{floorOf, peakOr}
 use borrow.Author.Needs.{needs, sfits-of}
 use Rattle.vitals.proofs.steps.peak.best_lag.Statement.{statement}
 use Rattle.vitals.proofs.steps.peak.best_lag.Tie as tie
-use Rattle.vitals.proofs.steps.peak.best_lag.Reads as reads
-use Rattle.vitals.proofs.steps.peak.best_lag.Lts as lts
-use Rattle.vitals.proofs.steps.peak.first_peak.Reads as first-peak-reads
-use Rattle.vitals.proofs.steps.peak.floor_of.Reads as floor-of-reads
-use Rattle.vitals.proofs.steps.peak.highest.Reads as highest-reads
 
--- src/peak.rt:87:9
 highest-requires : tie.Need-highest-requires
 highest-requires c κs = search needs
 
--- src/peak.rt:88:37
 mul-floor-of : tie.Need-mul-floor-of
 mul-floor-of c = search needs
 
--- src/peak.rt:88:37
 shared-slice-copy-out-floor-of : tie.Need-shared-slice-copy-out-floor-of
 shared-slice-copy-out-floor-of c = search needs
 
--- src/peak.rt:88:28
 floor-of-requires : tie.Need-floor-of-requires
 floor-of-requires c κs =
     let x = at (c .before .before .args .summed .now) (c .before .highest .result) in
     rw (toZ-ofZ (sfits-of {w = w32} {z = x} (c .floor-of-arg .given))) (c .before .before .pre .2 (c .before .highest .result))
 
--- src/peak.rt:88:5
 first-peak-requires : tie.Need-first-peak-requires
 first-peak-requires c κs = search needs
 
--- src/peak.rt:83:1
 returns : tie.Need-returns
 returns c =
     let v = c .before .before .before .before .args in

@@ -1,9 +1,8 @@
 use mir.Facts.{toZ-ofZ}
-use mathlib.Core.Path.{_≡_, refl, sym, ap, _∙_}
+use mathlib.Core.Path.{_≡_, sym, ap, _∙_}
 use mathlib.Core.List.{List}
 use Prim.Native.Nat.{ℕ, _+_, _≤_, _<_, _-_}
 use native.Mathlib.Omega.{arith}
-use lib.ListN.{length}
 use borrow.Author.Tests.{le-leb, lt-leb}
 use lib.IntN.{ℤ}
 use mir.Syntax.{w32}
@@ -13,9 +12,6 @@ use Rattle.vitals.specs.Peak.{isPeak, peakOr}
 use Rattle.num.proofs.First.{Searching, begun, found, passed, over}
 use Rattle.vitals.proofs.steps.peak.first_peak.Statement.{statement}
 use Rattle.vitals.proofs.steps.peak.first_peak.Tie as tie
-use Rattle.vitals.proofs.steps.peak.first_peak.Reads as reads
-use Rattle.vitals.proofs.steps.peak.first_peak.Lts as lts
-use Rattle.vitals.proofs.steps.peak.is_peak.Reads as is-peak-reads
 
 abbrev Inv-loop : tie.InvT-loop
 Inv-loop summed hi floor top lag₀ lag =
@@ -40,23 +36,18 @@ past : (s : List ℤ) (hi : ℕ) (floor : ℤ) (b : ℕ) {k : ℕ} → first (is
 unfolding peakOr
 past s hi floor b {k} e h = rw (e, lt-leb k hi h)
 
--- src/peak.rt:62:9
 loop-holds : tie.Need-loop-holds Inv-loop μ-loop
 loop-holds c = (omega arith, omega arith, begun _ _ _)
 
--- src/peak.rt:66:12
 is-peak-requires : tie.Need-is-peak-requires Inv-loop μ-loop
 is-peak-requires c κs = omega arith
 
--- src/peak.rt:69:15
 add-lag : tie.Need-add-lag Inv-loop μ-loop
 add-lag c = omega arith
 
--- src/peak.rt:62:9
 loop-less : tie.Need-loop-less Inv-loop μ-loop
 loop-less c = omega arith
 
--- src/peak.rt:62:9
 loop-again : tie.Need-loop-again Inv-loop μ-loop
 loop-again c = (
   omega arith,
@@ -64,7 +55,6 @@ loop-again c = (
   passed _ (c .before .before .before .loop .inv .2) (omega arith) (sym (c .before .is-peak .ensures) ∙ c .if2 .left),
 )
 
--- src/peak.rt:57:1
 returns : tie.Need-returns Inv-loop μ-loop
 returns c =
     let v = c .before .before .args in (
@@ -77,7 +67,6 @@ returns c =
       omega arith,
     )
 
--- src/peak.rt:57:1
 returns-2 : tie.Need-returns-2 Inv-loop μ-loop
 returns-2 c =
     let v = c .before .before .before .before .args in (

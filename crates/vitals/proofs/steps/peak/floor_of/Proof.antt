@@ -1,9 +1,9 @@
 -- `floor_of` meets its contract: with a value of at most 128,000 no step leaves 32 bits. Assumes nothing.
 use mir.Facts.{toZ-ofZ}
 use Rattle.num.proofs.Abs.{sfits-abs, abs-sub, abs-mul, abs-quot}
-use mathlib.Core.Path.{_≡_, refl, sym, ap, _∙_}
+use mathlib.Core.Path.{_≡_, sym, ap, _∙_}
 use mathlib.Core.Bool.{Bool, cond}
-use Prim.Native.Nat.{ℕ, _≤_, _<_, _*_, _/_}
+use Prim.Native.Nat.{_≤_, _*_}
 use native.Mathlib.Omega.{arith}
 use lib.IntN.{ℤ, pos, natAbs, _-ℤ_, _*ℤ_}
 use lib.Signed.{quotZ, ltZ}
@@ -12,8 +12,6 @@ use mir.Val.{SFits, toZ, ofZ}
 use Rattle.vitals.specs.Peak.{floorOf}
 use Rattle.vitals.proofs.steps.peak.floor_of.Statement.{statement}
 use Rattle.vitals.proofs.steps.peak.floor_of.Tie as tie
-use Rattle.vitals.proofs.steps.peak.floor_of.Reads as reads
-use Rattle.vitals.proofs.steps.peak.floor_of.Lts as lts
 
 picked : (g : ℤ) {b : Bool} → ltZ (pos 0) g ≡ b → floorOf g ≡ cond b (g -ℤ quotZ (g *ℤ pos 15) (pos 100)) g
 picked g t = ap (λ (y : Bool). cond y (g -ℤ quotZ (g *ℤ pos 15) (pos 100)) g) t
@@ -31,25 +29,21 @@ module _ (g : ℤ) (h : natAbs g ≤ 128000) where
   fits-diff : SFits w32 (g -ℤ quotZ (g *ℤ pos 15) (pos 100))
   fits-diff = sfits-abs {w = w32} _ (omega (arith, abs-sub g (quotZ (g *ℤ pos 15) (pos 100)), abs-quot (g *ℤ pos 15) (pos 100), abs-mul g (pos 15)))
 
--- src/peak.rt:79:30
 mul-result : tie.Need-mul-result
 mul-result c = rw (self (c .before .args .global) (c .before .pre)) (fits-mul (c .before .args .global) (c .before .pre))
 
--- src/peak.rt:79:30
 div-result : tie.Need-div-result
 div-result c =
     let g = c .before .args .global in
     let h = c .before .pre in
     (omega arith, rw (self g h, toZ-ofZ {w = w32} {z = g *ℤ pos 15} (fits-mul g h)) (fits-quot g h))
 
--- src/peak.rt:79:21
 sub-result : tie.Need-sub-result
 sub-result c =
     let g = c .before .args .global in
     let h = c .before .pre in
     rw (self g h, toZ-ofZ {w = w32} {z = g *ℤ pos 15} (fits-mul g h), toZ-ofZ {w = w32} (fits-quot g h)) (fits-diff g h)
 
--- src/peak.rt:75:1
 returns : tie.Need-returns
 returns c =
     let g = c .before .args .global in
@@ -57,7 +51,6 @@ returns c =
     rw (self g h, toZ-ofZ {w = w32} {z = g *ℤ pos 15} (fits-mul g h), toZ-ofZ {w = w32} (fits-quot g h), toZ-ofZ {w = w32} (fits-diff g h))
     (sym (picked g (ap (ltZ (pos 0)) (sym (self g h)) ∙ c .if1 .taken)))
 
--- src/peak.rt:75:1
 returns-2 : tie.Need-returns-2
 returns-2 c =
     let g = c .before .args .global in

@@ -2,7 +2,7 @@
 use mathlib.Core.Path.{_≡_, refl, sym, ap, _∙_}
 use mathlib.Core.Bool.{Bool, true, false, cond}
 use mathlib.Core.List.{List}
-use Prim.Native.Nat.{ℕ, suc, _+_, _≤_, _<_, _-_}
+use Prim.Native.Nat.{ℕ, suc, _+_, _≤_, _-_}
 use native.Mathlib.Omega.{arith}
 use lib.IntN.{ℤ}
 use lib.Signed.{leZ}
@@ -10,9 +10,6 @@ use Rattle.vitals.specs.Series.{at}
 use Rattle.vitals.specs.Peak.{highest}
 use Rattle.vitals.proofs.steps.peak.highest.Statement.{statement}
 use Rattle.vitals.proofs.steps.peak.highest.Tie as tie
-use Rattle.vitals.proofs.steps.peak.highest.Reads as reads
-use Rattle.vitals.proofs.steps.peak.highest.Lts as lts
-use Rattle.vitals.proofs.steps.peak.not_below.Reads as not-below-reads
 
 abbrev Inv-loop : tie.InvT-loop
 Inv-loop summed hi best₀ lag₀ best lag = (2 ≤ lag) × (lag ≤ hi) × (2 ≤ best) × (best ≤ lag) × (best ≡ highest summed (lag - 2))
@@ -34,24 +31,19 @@ stays s k b h e t = sym (more s k b h e ∙ ap (λ (y : Bool). cond y b (k + 1))
 gives-way : (s : List ℤ) (k b : ℕ) → 2 ≤ k → b ≡ highest s (k - 2) → leZ (at s (k + 1)) (at s b) ≡ false → k + 1 ≡ highest s (k + 1 - 2)
 gives-way s k b h e t = sym (more s k b h e ∙ ap (λ (y : Bool). cond y b (k + 1)) t)
 
--- src/peak.rt:46:5
 loop-holds : tie.Need-loop-holds Inv-loop μ-loop
 unfolding highest
 loop-holds c = (omega arith, omega arith, omega arith, omega arith, refl)
 
--- src/peak.rt:47:15
 add-lag : tie.Need-add-lag Inv-loop μ-loop
 add-lag c = omega arith
 
--- src/peak.rt:48:12
 not-below-requires : tie.Need-not-below-requires Inv-loop μ-loop
 not-below-requires c κs = omega arith
 
--- src/peak.rt:46:5
 loop-less : tie.Need-loop-less Inv-loop μ-loop
 loop-less c = omega arith
 
--- src/peak.rt:46:5
 loop-again : tie.Need-loop-again Inv-loop μ-loop
 loop-again c =
     let l = c .before .before .before .loop in (
@@ -62,11 +54,9 @@ loop-again c =
       stays _ (l .lag) (l .best) (omega arith) (l .inv .4) (sym (c .before .not-below .ensures) ∙ c .if1 .taken),
     )
 
--- src/peak.rt:46:5
 loop-less-2 : tie.Need-loop-less-2 Inv-loop μ-loop
 loop-less-2 c = omega arith
 
--- src/peak.rt:46:5
 loop-again-2 : tie.Need-loop-again-2 Inv-loop μ-loop
 loop-again-2 c =
     let l = c .before .before .before .loop in (
@@ -77,7 +67,6 @@ loop-again-2 c =
       gives-way _ (l .lag) (l .best) (omega arith) (l .inv .4) (sym (c .before .not-below .ensures) ∙ c .if1 .left),
     )
 
--- src/peak.rt:40:1
 returns : tie.Need-returns Inv-loop μ-loop
 returns c =
     let e : c .before .loop .lag ≡ c .before .before .args .hi = omega arith in

@@ -1,6 +1,6 @@
 -- `is_peak` meets its contract: each way through the tests decides the three conditions. Assumes nothing.
 use mir.Facts.{toZ-ofZ}
-use mathlib.Core.Path.{_≡_, refl, sym, ap, _∙_}
+use mathlib.Core.Path.{_≡_, sym, ap, _∙_}
 use mathlib.Core.Bool.{Bool, true, false, _&&_}
 use mathlib.Core.List.{List}
 use Prim.Native.Nat.{ℕ, _+_, _-_}
@@ -12,10 +12,6 @@ use Rattle.vitals.specs.Series.{at}
 use borrow.Author.Needs.{needs}
 use Rattle.vitals.proofs.steps.peak.is_peak.Statement.{statement}
 use Rattle.vitals.proofs.steps.peak.is_peak.Tie as tie
-use Rattle.vitals.proofs.steps.peak.is_peak.Reads as reads
-use Rattle.vitals.proofs.steps.peak.is_peak.Lts as lts
-use Rattle.vitals.proofs.steps.peak.not_below.Reads as not-below-reads
-use Rattle.vitals.proofs.steps.peak.reaches.Reads as reaches-reads
 
 both : {x y z : Bool} → x ≡ true → y ≡ true → z ≡ x && (y && z)
 both p q = rw (p, q)
@@ -30,27 +26,21 @@ neither y p = rw p
 asked : (s : List ℤ) (k : ℕ) (g : ℤ) {r b : Bool} → SFits w32 g → r ≡ leZ (toZ w32 (ofZ w32 g)) (at s k) → r ≡ b → leZ g (at s k) ≡ b
 asked s k g h e t = ap (λ (z : ℤ). leZ z (at s k)) (sym (toZ-ofZ {w = w32} {z = g} h)) ∙ sym e ∙ t
 
--- src/peak.rt:31:8
 reaches-requires : tie.Need-reaches-requires
 reaches-requires c κs = search needs
 
--- src/peak.rt:32:35
 sub-not-below : tie.Need-sub-not-below
 sub-not-below c = search needs
 
--- src/peak.rt:32:12
 not-below-requires : tie.Need-not-below-requires
 not-below-requires c κs = search needs
 
--- src/peak.rt:32:69
 add-not-below : tie.Need-add-not-below
 add-not-below c = search needs
 
--- src/peak.rt:32:46
 not-below-requires-2 : tie.Need-not-below-requires-2
 not-below-requires-2 c κs = search needs
 
--- src/peak.rt:27:1
 returns : tie.Need-returns
 returns c =
     let v = c .before .before .before .before .before .args in
@@ -58,7 +48,6 @@ returns c =
     both (asked (v .summed .now) (v .lag) (v .floor) (c .before .before .before .before .before .fits .floor) (c .before .before .before .before .reaches .ensures) (c .before .before .before .if1 .taken))
     (sym (c .before .before .not-below .ensures) ∙ c .before .if2 .taken)
 
--- src/peak.rt:27:1
 returns-2 : tie.Need-returns-2
 returns-2 c =
     let v = c .before .before .before .before .args in
@@ -66,7 +55,6 @@ returns-2 c =
     (asked (v .summed .now) (v .lag) (v .floor) (c .before .before .before .before .fits .floor) (c .before .before .before .reaches .ensures) (c .before .before .if1 .taken))
     (sym (c .before .not-below .ensures) ∙ c .if2 .left)
 
--- src/peak.rt:27:1
 returns-3 : tie.Need-returns-3
 returns-3 c =
     let v = c .before .before .args in

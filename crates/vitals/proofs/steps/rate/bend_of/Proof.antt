@@ -2,7 +2,7 @@
 use mir.Facts.{toZ-ofZ}
 use Rattle.num.proofs.Abs.{sfits-abs, abs-add, abs-sub, abs-mul}
 use mathlib.Core.Path.{_≡_, refl}
-use Prim.Native.Nat.{ℕ, _≤_}
+use Prim.Native.Nat.{_≤_}
 use native.Mathlib.Omega.{arith}
 use lib.IntN.{ℤ, pos, natAbs, _+ℤ_, _-ℤ_, _*ℤ_}
 use mir.Syntax.{w32}
@@ -10,8 +10,6 @@ use mir.Val.{SFits, toZ, ofZ}
 use Rattle.vitals.specs.Rate.{bend}
 use Rattle.vitals.proofs.steps.rate.bend_of.Statement.{statement}
 use Rattle.vitals.proofs.steps.rate.bend_of.Tie as tie
-use Rattle.vitals.proofs.steps.rate.bend_of.Reads as reads
-use Rattle.vitals.proofs.steps.rate.bend_of.Lts as lts
 
 module _ (a b c : ℤ) (ha : natAbs a ≤ 128000) (hb : natAbs b ≤ 128000) (hc : natAbs c ≤ 128000) where
   fits-twice : SFits w32 (pos 2 *ℤ b)

@@ -1,12 +1,10 @@
 -- `clamp_8` meets its contract. Assumes nothing.
 use mir.Facts.{toZ-ofZ}
-use mathlib.Core.Path.{_≡_, refl, _∙_}
+use mathlib.Core.Path.{refl, _∙_}
 use mir.Syntax.{w32}
 use Rattle.num.proofs.Clamp.{kept}
 use Rattle.vitals.proofs.steps.rate.clamp_8.Statement.{statement}
 use Rattle.vitals.proofs.steps.rate.clamp_8.Tie as tie
-use Rattle.vitals.proofs.steps.rate.clamp_8.Reads as reads
-use Rattle.vitals.proofs.steps.rate.clamp_8.Lts as lts
 
 returns : tie.Need-returns
 returns c = kept 7 8 (c .before .args .z) _ (toZ-ofZ {w = w32} (c .before .fits .z)) (c .if1 .taken) refl

@@ -1,9 +1,9 @@
 -- `confidence_of` meets its contract. Assumes nothing.
 use mir.Facts.{toZ-ofZ, toZ-pos}
 use Rattle.num.proofs.Abs.{sfits-abs, abs-quot}
-use mathlib.Core.Path.{_≡_, refl, sym, ap, _∙_}
-use mathlib.Core.Bool.{Bool, true, false}
-use Prim.Native.Nat.{ℕ, _≤_, _<_, _/_, min}
+use mathlib.Core.Path.{_≡_, refl, sym}
+use mathlib.Core.Bool.{true, false}
+use Prim.Native.Nat.{ℕ, _≤_, min}
 use native.Mathlib.Nat.{div-le-self}
 use borrow.Author.Tests.{ltb-true, ltb-false}
 use lib.Dec.{T}
@@ -11,13 +11,11 @@ use lib.IntN.{ℤ, pos, negsuc, natAbs}
 use lib.Signed.{ltZ, quotZ, nonNeg}
 use mir.Syntax.{w16, w32}
 use mir.Val.{SFits, Fits, toZ, ofZ}
-use Rattle.vitals.specs.Rate.{natural, confidenceOf}
+use Rattle.vitals.specs.Rate.{natural}
 use native.Mathlib.Omega.{arith}
 use borrow.Author.Needs.{needs}
 use Rattle.vitals.proofs.steps.rate.confidence_of.Statement.{statement}
 use Rattle.vitals.proofs.steps.rate.confidence_of.Tie as tie
-use Rattle.vitals.proofs.steps.rate.confidence_of.Reads as reads
-use Rattle.vitals.proofs.steps.rate.confidence_of.Lts as lts
 
 module _ (p : ℤ) (u : ℕ) (hp : natAbs p ≤ 128000) (hu : u ≤ 64) where
   fits : SFits w32 (quotZ p (pos u))
@@ -48,29 +46,24 @@ value : (z : ℤ) → ltZ z (pos 0) ≡ false → ltZ (pos 1000) z ≡ false →
 value (pos n) l h = omega (arith, ltb-false 1000 n h)
 value (negsuc n) l h = absurd (differ (sym l))
 
--- src/estimate.rt:17:21
 cast-q : tie.Need-cast-q
 cast-q c = search needs
 
--- src/estimate.rt:17:13
 div-q : tie.Need-div-q
 div-q c = (omega arith, rw (divided (c .args .peak) (c .args .used) (c .pre .0) (c .pre .2)) (fits (c .args .peak) (c .args .used) (c .pre .0) (c .pre .2)))
 
--- src/estimate.rt:19:9
 returns : tie.Need-returns
 returns c =
     let a = c .before .args in
     let p = c .before .pre in
     sym (low (quotZ (a .peak) (pos (a .used))) (rw (held (a .peak) (a .used) (p .0) (p .2)) at (c .if1 .taken)))
 
--- src/estimate.rt:22:9
 returns-2 : tie.Need-returns-2
 returns-2 c =
     let a = c .before .before .args in
     let p = c .before .before .pre in
     sym (high (quotZ (a .peak) (pos (a .used))) (rw (held (a .peak) (a .used) (p .0) (p .2)) at (c .if2 .taken)))
 
--- src/estimate.rt:24:5
 cast-result : tie.Need-cast-result
 cast-result c =
     let a = c .before .before .args in
@@ -78,7 +71,6 @@ cast-result c =
     let e = held (a .peak) (a .used) (p .0) (p .2) in
     rw e (middle (quotZ (a .peak) (pos (a .used))) (rw e at (c .before .if1 .left)) (rw e at (c .if2 .left)))
 
--- src/estimate.rt:13:1
 returns-3 : tie.Need-returns-3
 returns-3 c =
     let a = c .before .before .args in

@@ -1,26 +1,21 @@
 -- `delta_x16` meets its contract: what the calls ensure, put together. Assumes nothing.
 use mir.Facts.{toZ-ofZ}
 use Rattle.num.proofs.Abs.{sfits-abs}
-use mathlib.Core.Path.{_≡_, refl, sym, ap, _∙_}
+use mathlib.Core.Path.{_≡_, sym, ap, _∙_}
 use mathlib.Core.Bool.{Bool, true, false, cond}
-use Prim.Native.Nat.{ℕ, _≤_}
+use Prim.Native.Nat.{_≤_}
 use native.Mathlib.Omega.{arith}
 use borrow.Author.Tests.{ltb-true}
 use lib.IntN.{ℤ, pos, negsuc, natAbs, _-ℤ_, _*ℤ_}
 use lib.Signed.{ltZ, quotZ}
 use mir.Syntax.{w32}
-use mir.Val.{SFits, toZ, ofZ}
+use mir.Val.{toZ, ofZ}
 use Rattle.num.specs.Clamp.{clampZ}
 use Rattle.num.proofs.Clamp.{clamp-size}
 use Rattle.vitals.specs.Rate.{bend, vertex}
 use borrow.Author.Needs.{needs, sfits-of}
 use Rattle.vitals.proofs.steps.rate.delta_x16.Statement.{statement}
 use Rattle.vitals.proofs.steps.rate.delta_x16.Tie as tie
-use Rattle.vitals.proofs.steps.rate.delta_x16.Reads as reads
-use Rattle.vitals.proofs.steps.rate.delta_x16.Lts as lts
-use Rattle.vitals.proofs.steps.rate.bend_of.Reads as bend-of-reads
-use Rattle.vitals.proofs.steps.rate.clamp_8.Reads as clamp-8-reads
-use Rattle.vitals.proofs.steps.rate.lean.Reads as lean-reads
 
 below : (z : ℤ) → ltZ z (pos 0) ≡ true → 1 ≤ natAbs z
 below (pos n) h = omega (arith, ltb-true n 0 h)
@@ -51,22 +46,18 @@ seen a b c r ha hb hc e = e ∙ rw (self a ha, self b hb, self c hc)
 leant : (a c d r : ℤ) {y : ℤ} → natAbs a ≤ 128000 → natAbs c ≤ 128000 → y ≡ d → r ≡ quotZ ((toZ w32 (ofZ w32 a) -ℤ toZ w32 (ofZ w32 c)) *ℤ pos 8) y → r ≡ quotZ ((a -ℤ c) *ℤ pos 8) d
 leant a c d r ha hc q e = e ∙ rw (self a ha, self c hc, q)
 
--- src/rate.rt:81:9
 bend-of-requires : tie.Need-bend-of-requires
 bend-of-requires c κs = search needs
 
--- src/rate.rt:82:24
 lean-requires : tie.Need-lean-requires
 lean-requires c κs =
     let x = c .before .before .args in
     let p = c .before .before .pre in
     (rw (self (x .a) (p .0)) (p .0), rw (self (x .c) (p .2)) (p .2), below (toZ w32 (ofZ w32 (c .before .bend-of .result))) (c .if1 .taken))
 
--- src/rate.rt:82:16
 clamp-8-requires : tie.Need-clamp-8-requires
 clamp-8-requires c κs = search needs
 
--- src/rate.rt:77:1
 returns : tie.Need-returns
 returns c =
     let x = c .before .before .before .before .args in
@@ -82,7 +73,6 @@ returns c =
     sym (decided (x .a) (x .b) (x .c) _ e (c .before .before .if1 .taken))
     )
 
--- src/rate.rt:77:1
 returns-2 : tie.Need-returns-2
 returns-2 c =
     let x = c .before .before .args in

@@ -1,21 +1,14 @@
 -- `is_accepted` meets its contract. Assumes nothing.
 use borrow.Author.Tests.{lt-ltb, le-ltb}
-use native.Mathlib.Omega.{arith}
-use borrow.Author.Needs.{needs}
 use Rattle.vitals.proofs.steps.rate.is_accepted.Statement.{statement}
 use Rattle.vitals.proofs.steps.rate.is_accepted.Tie as tie
-use Rattle.vitals.proofs.steps.rate.is_accepted.Reads as reads
-use Rattle.vitals.proofs.steps.rate.is_accepted.Lts as lts
 
--- src/estimate.rt:45:13
 returns : tie.Need-returns
 returns c = simp (lt-ltb _ _ (c .before .if1 .taken), lt-ltb _ _ (c .if2 .taken))
 
--- src/estimate.rt:47:9
 returns-2 : tie.Need-returns-2
 returns-2 c = simp (lt-ltb _ _ (c .before .if1 .taken), le-ltb _ _ (c .if2 .left))
 
--- src/estimate.rt:40:1
 returns-3 : tie.Need-returns-3
 returns-3 c = simp (le-ltb _ _ (c .if1 .left))
 

@@ -1,19 +1,17 @@
 -- `lean` meets its contract: a quotient is no larger than what is divided. Assumes nothing.
 use mir.Facts.{toZ-ofZ}
 use Rattle.num.proofs.Abs.{sfits-abs, abs-sub, abs-mul, abs-quot}
-use mathlib.Core.Path.{_≡_, refl}
-use Prim.Native.Nat.{ℕ, suc, _≤_, _<_, _/_, _^_}
+use mathlib.Core.Path.{_≡_}
+use Prim.Native.Nat.{_≤_}
 use native.Mathlib.Nat.{div-le-self}
 use native.Mathlib.Omega.{arith}
-use lib.IntN.{ℤ, pos, negsuc, natAbs, _-ℤ_, _*ℤ_}
+use lib.IntN.{ℤ, pos, natAbs, _-ℤ_, _*ℤ_}
 use lib.Signed.{quotZ}
 use mir.Syntax.{w32}
 use mir.Val.{SFits, toZ, ofZ}
 use Rattle.num.proofs.Divisor.{bits-pos}
 use Rattle.vitals.proofs.steps.rate.lean.Statement.{statement}
 use Rattle.vitals.proofs.steps.rate.lean.Tie as tie
-use Rattle.vitals.proofs.steps.rate.lean.Reads as reads
-use Rattle.vitals.proofs.steps.rate.lean.Lts as lts
 
 module _ (a c d : ℤ) (ha : natAbs a ≤ 128000) (hc : natAbs c ≤ 128000) (hd : 1 ≤ natAbs d) (fd : SFits w32 d) where
   size : natAbs ((a -ℤ c) *ℤ pos 8) ≤ 2048000

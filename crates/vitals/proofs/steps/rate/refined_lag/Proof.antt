@@ -1,22 +1,20 @@
 -- `refined_lag` meets its contract. Assumes nothing.
 use mir.Facts.{toZ-ofZ, toZ-pos}
 use Rattle.num.proofs.Abs.{sfits-abs, abs-add}
-use mathlib.Core.Path.{_≡_, refl, sym, ap, _∙_}
-use mathlib.Core.Bool.{Bool, true, false}
-use Prim.Native.Nat.{ℕ, _+_, _*_, _≤_, _<_, max}
+use mathlib.Core.Path.{_≡_, refl, sym}
+use mathlib.Core.Bool.{true, false}
+use Prim.Native.Nat.{ℕ, _+_, _*_, _≤_, max}
 use borrow.Author.Tests.{ltb-true, ltb-false}
 use lib.Dec.{T}
 use lib.IntN.{ℤ, pos, negsuc, natAbs, _+ℤ_, _*ℤ_}
 use lib.Signed.{ltZ, nonNeg}
 use mir.Syntax.{w32}
 use mir.Val.{SFits, Fits, toZ, ofZ}
-use Rattle.vitals.specs.Rate.{natural, refined}
+use Rattle.vitals.specs.Rate.{natural}
 use native.Mathlib.Omega.{arith}
 use borrow.Author.Needs.{needs}
 use Rattle.vitals.proofs.steps.rate.refined_lag.Statement.{statement}
 use Rattle.vitals.proofs.steps.rate.refined_lag.Tie as tie
-use Rattle.vitals.proofs.steps.rate.refined_lag.Reads as reads
-use Rattle.vitals.proofs.steps.rate.refined_lag.Lts as lts
 
 module _ (b : ℕ) (d : ℤ) (hb : b ≤ 127) (hd : natAbs d ≤ 8) where
   size : natAbs (pos (b * 16) +ℤ d) ≤ 2040
@@ -46,26 +44,21 @@ high : (z : ℤ) → natAbs z ≤ 2040 → ltZ z (pos 16) ≡ false
 high (pos n) s h = ((tt, record { fits = omega arith }), (omega (arith, ltb-false n 16 h), omega (arith, ltb-false n 16 h), omega arith))
 high (negsuc n) s h = absurd (differ (sym h))
 
--- src/estimate.rt:32:16
 cast-lag : tie.Need-cast-lag
 cast-lag c = search needs
 
--- src/estimate.rt:32:15
 mul-lag : tie.Need-mul-lag
 mul-lag c = rw (times (c .args .best) (c .args .delta) (c .pre .0) (c .pre .1)) (sfits-abs {w = w32} (pos (c .args .best * 16)) (omega arith))
 
--- src/estimate.rt:32:15
 add-lag : tie.Need-add-lag
 add-lag c = rw (moved (c .args .best) (c .args .delta) (c .pre .0) (c .pre .1)) (fits (c .args .best) (c .args .delta) (c .pre .0) (c .pre .1))
 
--- src/estimate.rt:34:9
 returns : tie.Need-returns
 returns c =
     let a = c .before .args in
     let p = c .before .pre in
     (sym (low (pos (a .best * 16) +ℤ a .delta) (rw (held (a .best) (a .delta) (p .0) (p .1)) at (c .if1 .taken))), omega arith, omega arith)
 
--- src/estimate.rt:36:5
 cast-result : tie.Need-cast-result
 cast-result c =
     let a = c .before .args in
@@ -73,7 +66,6 @@ cast-result c =
     let e = held (a .best) (a .delta) (p .0) (p .1) in
     rw e (high (pos (a .best * 16) +ℤ a .delta) (size (a .best) (a .delta) (p .0) (p .1)) (rw e at (c .if1 .left)) .0)
 
--- src/estimate.rt:28:1
 returns-2 : tie.Need-returns-2
 returns-2 c =
     let a = c .before .args in

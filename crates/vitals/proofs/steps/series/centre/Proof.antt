@@ -1,24 +1,20 @@
 -- `centre` meets its contract: each sample passed is less the mean. Assumes nothing.
-use mathlib.Core.Path.{_≡_, refl, sym, ap, _∙_}
-use Prim.Native.Nat.{ℕ, _+_, _-_, _≤_, _<_}
+use mathlib.Core.Path.{_≡_, refl, sym, _∙_}
+use Prim.Native.Nat.{ℕ, _-_, _≤_, _<_}
 use native.Mathlib.Omega.{arith}
 use borrow.Author.Count.{below-none}
-use borrow.Author.Needs.{needs, sfits-of}
+use borrow.Author.Needs.{sfits-of}
 use lib.ListN.{length, length-set, length-map}
 use lib.Seq.{ext-getD}
 use lib.IntN.{ℤ, pos, natAbs, _-ℤ_}
 use mir.Syntax.{w16, w32}
-use mir.Val.{toZ, ofZ}
+use mir.Val.{toZ}
 use mir.Facts.{toZ-ofZ}
 use Rattle.num.proofs.Lists.{map-at}
 use Rattle.num.proofs.Stored.{one-more}
 use Rattle.vitals.specs.Series.{at, clamp16, meanOf, centred}
 use Rattle.vitals.proofs.steps.series.centre.Statement.{statement}
 use Rattle.vitals.proofs.steps.series.centre.Tie as tie
-use Rattle.vitals.proofs.steps.series.centre.Reads as reads
-use Rattle.vitals.proofs.steps.series.centre.Lts as lts
-use Rattle.vitals.proofs.steps.series.mean_of.Reads as mean-of-reads
-use Rattle.vitals.proofs.steps.series.off.Reads as off-reads
 
 abbrev Inv-loop : tie.InvT-loop
 Inv-loop x out₀ mean i₀ i-end out i =
@@ -28,46 +24,36 @@ Inv-loop x out₀ mean i₀ i-end out i =
 abbrev μ-loop : tie.MeasureT-loop
 μ-loop x out₀ mean i₀ i-end out i = length x - i
 
--- src/steps/series.rt:76:9
 mean-of-requires : tie.Need-mean-of-requires Inv-loop μ-loop
 mean-of-requires c κs = let p = c .pre in (p .0, p .1, p .3)
 
--- src/steps/series.rt:77:5
 loop-holds : tie.Need-loop-holds Inv-loop μ-loop
 loop-holds c =
     let m = c .mean-of in
     let v = toZ-ofZ (sfits-of (m .ok)) in
     (omega arith, refl, omega arith, v ∙ m .ensures .0, rw v (m .ensures .1), below-none _)
 
--- src/steps/series.rt:78:22
 mul-off : tie.Need-mul-off Inv-loop μ-loop
 mul-off c = omega arith
 
--- src/steps/series.rt:78:22
 shared-slice-copy-out-off : tie.Need-shared-slice-copy-out-off Inv-loop μ-loop
 shared-slice-copy-out-off c = omega arith
 
--- src/steps/series.rt:78:18
 off-requires : tie.Need-off-requires Inv-loop μ-loop
 off-requires c κs = c .before .before .loop .inv .4
 
--- src/steps/series.rt:78:9
 mul-t11 : tie.Need-mul-t11 Inv-loop μ-loop
 mul-t11 c = omega arith
 
--- src/steps/series.rt:78:9
 slice-set-from-out : tie.Need-slice-set-from-out Inv-loop μ-loop
 slice-set-from-out c = omega arith
 
--- src/steps/series.rt:77:9
 add-i : tie.Need-add-i Inv-loop μ-loop
 add-i c = omega arith
 
--- src/steps/series.rt:77:5
 loop-less : tie.Need-loop-less Inv-loop μ-loop
 loop-less c = omega arith
 
--- src/steps/series.rt:77:5
 loop-again : tie.Need-loop-again Inv-loop μ-loop
 loop-again c =
     let l = c .before .before .before .loop in
@@ -81,11 +67,9 @@ loop-again c =
           (toZ-ofZ (sfits-of (c .off .ok)) ∙ c .off .ensures ∙ rw (toZ-ofZ (sfits-of {w = w16} {z = at x (l .i)} (c .before .off-arg .given)), l .inv .3)),
     )
 
--- src/steps/series.rt:72:1
 same-length : tie.Need-same-length Inv-loop μ-loop
 same-length c = omega arith
 
--- src/steps/series.rt:72:1
 returns : tie.Need-returns Inv-loop μ-loop
 unfolding centred
 returns c =

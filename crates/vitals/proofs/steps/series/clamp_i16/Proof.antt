@@ -1,15 +1,12 @@
 -- `clamp_i16` meets its contract. Assumes nothing.
 use mir.Facts.{toZ-ofZ}
-use mathlib.Core.Path.{_≡_, refl, _∙_}
+use mathlib.Core.Path.{refl, _∙_}
 use native.Mathlib.Omega.{arith}
-use lib.IntN.{ℤ}
 use mir.Syntax.{w16, w32}
 use mir.Val.{SFits, toZ, ofZ}
 use Rattle.num.proofs.Clamp.{inside, kept}
 use Rattle.vitals.proofs.steps.series.clamp_i16.Statement.{statement}
 use Rattle.vitals.proofs.steps.series.clamp_i16.Tie as tie
-use Rattle.vitals.proofs.steps.series.clamp_i16.Reads as reads
-use Rattle.vitals.proofs.steps.series.clamp_i16.Lts as lts
 
 fits : (c : tie.Else2) → SFits w16 (toZ w32 (ofZ w32 (c .before .before .args .z)))
 fits c = record { sfits = omega (arith, inside 32767 32767 (toZ w32 (ofZ w32 (c .before .before .args .z))) (c .before .if1 .left) (c .if2 .left)) }

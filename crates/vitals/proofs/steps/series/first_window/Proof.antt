@@ -1,51 +1,37 @@
 -- `first_window` meets its contract. Assumes nothing.
-use mathlib.Core.Path.{_≡_, refl, sym, ap, _∙_}
-use Prim.Native.Nat.{ℕ, _+_, _-_, _≤_, _<_, min}
+use mathlib.Core.Path.{_≡_, ap, _∙_}
+use Prim.Native.Nat.{ℕ, _+_, _-_, min}
 use native.Mathlib.Omega.{arith}
 use borrow.Author.Needs.{needs, sfits-of}
 use lib.ListN.{length, take, length-take}
-use lib.IntN.{ℤ}
-use mir.Syntax.{w32}
-use mir.Val.{toZ, ofZ}
 use mir.Facts.{toZ-ofZ}
 use Rattle.num.specs.Sum.{sumZ}
 use Rattle.vitals.proofs.Windows.{samples-take}
 use borrow.Author.Needs.{needs}
 use Rattle.vitals.proofs.steps.series.first_window.Statement.{statement}
 use Rattle.vitals.proofs.steps.series.first_window.Tie as tie
-use Rattle.vitals.proofs.steps.series.first_window.Reads as reads
-use Rattle.vitals.proofs.steps.series.first_window.Lts as lts
-use Rattle.vitals.proofs.steps.series.smaller.Reads as smaller-reads
-use Rattle.vitals.proofs.steps.series.sum_of.Reads as sum-of-reads
 
--- src/steps/series.rt:120:23
 add-smaller : tie.Need-add-smaller
 add-smaller c = search needs
 
--- src/steps/series.rt:120:9
 smaller-requires : tie.Need-smaller-requires
 smaller-requires c κs = search needs
 
--- src/steps/series.rt:121:22
 sub-sum-of : tie.Need-sub-sum-of
 sub-sum-of c = search needs
 
--- src/steps/series.rt:121:22
 part-sum-of-start : tie.Need-part-sum-of-start
 part-sum-of-start c = search needs
 
--- src/steps/series.rt:121:22
 part-sum-of-end : tie.Need-part-sum-of-end
 part-sum-of-end c = search needs
 
--- src/steps/series.rt:121:9
 sum-of-requires : tie.Need-sum-of-requires
 sum-of-requires c κs =
     let x = c .before .before .args .x .now in
     let m = c .before .smaller .result - 0 in
     (omega (arith, length-take m x), samples-take m x (c .before .before .pre .1))
 
--- src/steps/series.rt:116:1
 returns : tie.Need-returns
 returns c =
     let start = c .before .before .before in

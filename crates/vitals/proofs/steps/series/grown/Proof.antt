@@ -1,12 +1,11 @@
 -- `grown` meets its contract. Assumes nothing.
-use mathlib.Core.Path.{_≡_, refl, sym, ap, _∙_}
-use Prim.Native.Nat.{ℕ, _+_, _≤_, _<_, min}
+use mathlib.Core.Path.{_≡_, refl, _∙_}
+use Prim.Native.Nat.{_+_}
 use native.Mathlib.Omega.{arith}
 use borrow.Author.Needs.{needs, sfits-of}
-use lib.ListN.{length}
-use lib.IntN.{ℤ, natAbs, _+ℤ_}
+use lib.IntN.{ℤ, _+ℤ_}
 use mir.Syntax.{w16, w32}
-use mir.Val.{SFits, toZ, ofZ}
+use mir.Val.{toZ, ofZ}
 use mir.Facts.{toZ-ofZ}
 use Rattle.num.proofs.Abs.{sfits-abs}
 use Rattle.vitals.specs.Series.{at}
@@ -14,19 +13,13 @@ use Rattle.vitals.proofs.Windows.{room, longer}
 use borrow.Author.Needs.{needs}
 use Rattle.vitals.proofs.steps.series.grown.Statement.{statement}
 use Rattle.vitals.proofs.steps.series.grown.Tie as tie
-use Rattle.vitals.proofs.steps.series.grown.Reads as reads
-use Rattle.vitals.proofs.steps.series.grown.Lts as lts
-use Rattle.vitals.proofs.steps.series.plus.Reads as plus-reads
 
--- src/steps/series.rt:133:30
 mul-plus : tie.Need-mul-plus
 mul-plus c = search needs
 
--- src/steps/series.rt:133:30
 shared-slice-copy-out-plus : tie.Need-shared-slice-copy-out-plus
 shared-slice-copy-out-plus c = search needs
 
--- src/steps/series.rt:133:18
 plus-requires : tie.Need-plus-requires
 plus-requires c κs =
     let start = c .before .before .before in
@@ -34,11 +27,9 @@ plus-requires c κs =
     let r = room (start .args .x .now) w (start .pre .0) (start .pre .1) (start .pre .2) in
     rw (toZ-ofZ (sfits-abs {w = w32} (w .sum) (omega arith))) (omega arith)
 
--- src/steps/series.rt:135:17
 add-t10 : tie.Need-add-t10
 add-t10 c = search needs
 
--- src/steps/series.rt:132:9
 returns : tie.Need-returns
 returns c =
     let start = c .before .before .before .before in
@@ -50,7 +41,6 @@ returns c =
     ∙ rw (toZ-ofZ (sfits-abs {w = w32} (w .sum) (omega arith)), toZ-ofZ (sfits-of {w = w16} {z = at x (w .hi)} (c .before .before .plus-arg .given))) in
     (longer x w (start .pre .0) (start .pre .1) (start .pre .2) _ e (c .before .before .before .if1 .taken), refl, omega arith)
 
--- src/steps/series.rt:126:1
 returns-2 : tie.Need-returns-2
 returns-2 c =
     let start = c .before in

@@ -1,34 +1,26 @@
 -- `highpass` meets its contract: the window is that around the next sample, and each sample passed is less the mean of its own. Assumes nothing.
-use mathlib.Core.Path.{_≡_, refl, sym, ap, _∙_}
+use mathlib.Core.Path.{_≡_, refl, ap, _∙_}
 use mathlib.Core.List.{List}
-use Prim.Native.Nat.{ℕ, _+_, _-_, _*_, _≤_, _<_, min}
+use Prim.Native.Nat.{ℕ, _-_, _≤_, _<_}
 use native.Mathlib.Numerals.{add-one}
 use native.Mathlib.Omega.{arith}
 use borrow.Author.Count.{below-none, falls}
 use borrow.Author.Needs.{needs, sfits-of}
 use lib.ListN.{length, length-set}
-use lib.IntN.{ℤ, pos, natAbs, _-ℤ_}
-use lib.Signed.{quotZ}
-use mir.Syntax.{w16, w32}
-use mir.Val.{Fits, toZ, ofZ}
+use lib.IntN.{ℤ, pos, _-ℤ_}
+use mir.Syntax.{w32}
+use mir.Val.{Fits}
 use mir.Facts.{toZ-ofZ}
 use Rattle.num.proofs.Lists.{built}
 use Rattle.num.proofs.Stored.{one-more}
 use Rattle.vitals.specs.Series.{at, clamp16, meanOf, halfOf, around, highpassed}
-use Rattle.vitals.specs.Steps.{Exact, Around, divisorOf}
+use Rattle.vitals.specs.Steps.{Exact, Around}
 use Rattle.vitals.specs.declared.steps.divide.Divisor.{Divisor}
 use Rattle.vitals.specs.declared.steps.series.Window.{Window}
 use Rattle.vitals.proofs.Windows.{window-size, around-sum, around-long}
+use Rattle.vitals.proofs.Facts.{exact}
 use Rattle.vitals.proofs.steps.series.highpass.Statement.{statement}
 use Rattle.vitals.proofs.steps.series.highpass.Tie as tie
-use Rattle.vitals.proofs.steps.series.highpass.Reads as reads
-use Rattle.vitals.proofs.steps.series.highpass.Lts as lts
-use Rattle.vitals.proofs.steps.divide.divisor_by.Reads as divisor-by-reads
-use Rattle.vitals.proofs.steps.divide.divisor_for.Reads as divisor-for-reads
-use Rattle.vitals.proofs.steps.series.first_window.Reads as first-window-reads
-use Rattle.vitals.proofs.steps.series.half_of.Reads as half-of-reads
-use Rattle.vitals.proofs.steps.series.level_at.Reads as level-at-reads
-use Rattle.vitals.proofs.steps.series.moved.Reads as moved-reads
 
 abbrev Inv-loop : tie.InvT-loop
 Inv-loop x out₀ m n half w₀ d₀ i₀ out w d i =
@@ -37,10 +29,6 @@ Inv-loop x out₀ m n half w₀ d₀ i₀ out w d i =
 
 abbrev μ-loop : tie.MeasureT-loop
 μ-loop x out₀ m n half w₀ d₀ i₀ out w d i = n - i
-
--- src/steps/series.rt:180:9
-exact : (d : Divisor) (n : ℕ) → d ≡ divisorOf n → 1 ≤ n → n ≤ 32767 → Exact d
-exact d n e some few = rw e (record { some = some; few = few; factor = refl })
 
 -- the window around a sample holds that sample, and no more than the series
 holds-one : (x : List ℤ) (half i : ℕ) (w : Window) → Around x half i w → i < length x → (1 ≤ w .hi - w .lo) × (w .hi - w .lo ≤ length x)
@@ -62,71 +50,58 @@ divides c =
 half-of-requires : tie.Need-half-of-requires Inv-loop μ-loop
 half-of-requires c κs = search needs
 
--- src/steps/series.rt:181:9
 first-window-requires : tie.Need-first-window-requires Inv-loop μ-loop
 first-window-requires c κs =
     let p = c .before .pre in
     (p .0, p .2, omega (arith, c .half-of .ensures))
 
--- src/steps/series.rt:182:9
 divisor-by-requires : tie.Need-divisor-by-requires Inv-loop μ-loop
 divisor-by-requires c κs = search needs
 
--- src/steps/series.rt:184:5
 loop-holds : tie.Need-loop-holds Inv-loop μ-loop
 loop-holds c =
     let h = c .before .before .half-of .ensures in
     (omega arith, refl, h, c .before .before .before .pre .1, c .before .first-window .ensures, exact (c .divisor-by .result) 1 (c .divisor-by .ensures) (omega arith) (omega arith), below-none _)
 
--- src/steps/series.rt:185:51
 sub-divisor-for : tie.Need-sub-divisor-for Inv-loop μ-loop
 sub-divisor-for c = omega arith
 
--- src/steps/series.rt:185:50
 cast-divisor-for : tie.Need-cast-divisor-for Inv-loop μ-loop
 cast-divisor-for c =
     let l = c .before .before .loop in
     let s = holds-one _ _ (l .i) (l .w) (l .inv .4) (c .before .loop-test .taken) in
     fits-below (s .1) (c .before .before .before .before .before .before .pre .0)
 
--- src/steps/series.rt:185:9
 divisor-for-requires : tie.Need-divisor-for-requires Inv-loop μ-loop
 divisor-for-requires c κs =
     let l = c .before .before .loop in
     let s = holds-one _ _ (l .i) (l .w) (l .inv .4) (c .before .loop-test .taken) in
     (l .inv .5, s .0, most (s .1) (c .before .before .before .before .before .before .pre .0))
 
--- src/steps/series.rt:186:18
 level-at-requires : tie.Need-level-at-requires Inv-loop μ-loop
 level-at-requires c κs =
     let l = c .before .before .before .loop in
     let start = c .before .before .before .before .before .before .before in
     (c .before .before .loop-test .taken, divides c, rw (ap (λ (d : Divisor). d .by) (c .divisor-for .ensures)) (window-size (start .args .x .now) (l .w) (l .inv .4 .slid) (start .pre .0) (start .pre .2)))
 
--- src/steps/series.rt:186:9
 mul-t10 : tie.Need-mul-t10 Inv-loop μ-loop
 mul-t10 c = omega arith
 
--- src/steps/series.rt:186:9
 slice-set-from-out : tie.Need-slice-set-from-out Inv-loop μ-loop
 slice-set-from-out c = omega arith
 
--- src/steps/series.rt:187:9
 moved-requires : tie.Need-moved-requires Inv-loop μ-loop
 moved-requires c κs =
     let l = c .before .before .before .before .loop in
     let start = c .before .before .before .before .before .before .before .before in
     (l .inv .4, start .pre .0, start .pre .2, c .before .before .before .loop-test .taken)
 
--- src/steps/series.rt:188:13
 add-i : tie.Need-add-i Inv-loop μ-loop
 add-i c = omega arith
 
--- src/steps/series.rt:184:5
 loop-less : tie.Need-loop-less Inv-loop μ-loop
 loop-less c = falls _ _ (c .before .before .before .before .loop-test .taken)
 
--- src/steps/series.rt:184:5
 loop-again : tie.Need-loop-again Inv-loop μ-loop
 loop-again c =
     let l = c .before .before .before .before .before .loop in
@@ -144,11 +119,9 @@ loop-again c =
           ∙ rw (ap (λ (d : Divisor). d .by) (c .before .before .divisor-for .ensures), around-sum x half (l .i) (l .w) (l .inv .4), around-long x half (l .i) (l .w) (l .inv .4))),
     )
 
--- src/steps/series.rt:175:1
 same-length : tie.Need-same-length Inv-loop μ-loop
 same-length c = omega arith
 
--- src/steps/series.rt:175:1
 returns : tie.Need-returns Inv-loop μ-loop
 unfolding highpassed
 returns c =

@@ -1,32 +1,21 @@
 -- `level_at` meets its contract. Assumes nothing.
-use mathlib.Core.Path.{_≡_, refl, sym, ap, _∙_}
-use Prim.Native.Nat.{ℕ, _*_, _≤_}
+use mathlib.Core.Path.{_∙_}
 use native.Mathlib.Omega.{arith}
 use borrow.Author.Needs.{needs, sfits-of}
-use lib.IntN.{ℤ, pos, natAbs, _-ℤ_}
-use lib.Signed.{quotZ}
 use mir.Syntax.{w16, w32}
-use mir.Val.{SFits, toZ, ofZ}
 use mir.Facts.{toZ-ofZ}
 use Rattle.num.proofs.Abs.{sfits-abs}
-use Rattle.vitals.specs.Series.{at, clamp16}
+use Rattle.vitals.specs.Series.{at}
 use borrow.Author.Needs.{needs}
 use Rattle.vitals.proofs.steps.series.level_at.Statement.{statement}
 use Rattle.vitals.proofs.steps.series.level_at.Tie as tie
-use Rattle.vitals.proofs.steps.series.level_at.Reads as reads
-use Rattle.vitals.proofs.steps.series.level_at.Lts as lts
-use Rattle.vitals.proofs.steps.series.mean_in.Reads as mean-in-reads
-use Rattle.vitals.proofs.steps.series.off.Reads as off-reads
 
--- src/steps/series.rt:171:9
 mul-off : tie.Need-mul-off
 mul-off c = search needs
 
--- src/steps/series.rt:171:9
 shared-slice-copy-out-off : tie.Need-shared-slice-copy-out-off
 shared-slice-copy-out-off c = search needs
 
--- src/steps/series.rt:171:15
 mean-in-requires : tie.Need-mean-in-requires
 mean-in-requires c κs =
     let start = c .before .before in
@@ -34,11 +23,9 @@ mean-in-requires c κs =
     let few = start .pre .1 .few in
     rw (toZ-ofZ (sfits-abs {w = w32} (w .sum) (omega arith))) (start .pre .1, start .pre .2)
 
--- src/steps/series.rt:171:5
 off-requires : tie.Need-off-requires
 off-requires c κs = rw (toZ-ofZ (sfits-of (c .mean-in .ok))) (c .mean-in .ensures .1)
 
--- src/steps/series.rt:167:1
 returns : tie.Need-returns
 returns c =
     let start = c .before .before .before .before in

@@ -1,24 +1,20 @@
 -- `mean_in` meets its contract: the size is divided, and the sign put back. Assumes nothing.
 use mathlib.Core.Path.{_≡_, refl, sym, ap, _∙_}
 use mathlib.Core.Bool.{true, false}
-use Prim.Native.Nat.{ℕ, suc, _+_, _*_, _/_, _^_, _≤_, _<_}
+use Prim.Native.Nat.{ℕ, _*_, _/_, _≤_}
 use native.Mathlib.Nat.{div-le-self}
 use native.Mathlib.Omega.{arith}
 use borrow.Author.Tests.{ltb-true}
-use lib.Dec.{T}
 use lib.IntN.{ℤ, pos, negsuc, negℤ, natAbs, _-ℤ_}
-use lib.Signed.{ltZ, nonNeg, quotZ}
+use lib.Signed.{ltZ, quotZ}
 use mir.Syntax.{w32}
-use mir.Val.{SFits, Fits, toZ, ofZ}
+use mir.Val.{SFits, toZ, ofZ}
 use mir.Facts.{toZ-ofZ, toZ-pos}
 use Rattle.num.proofs.Abs.{sfits-abs, abs-minus, abs-neg, not-neg, neg-not-neg}
 use Rattle.num.proofs.Logic.{never}
 use Rattle.num.proofs.Read.{minus-fits, minus-read}
 use Rattle.vitals.proofs.steps.series.mean_in.Statement.{statement}
 use Rattle.vitals.proofs.steps.series.mean_in.Tie as tie
-use Rattle.vitals.proofs.steps.series.mean_in.Reads as reads
-use Rattle.vitals.proofs.steps.series.mean_in.Lts as lts
-use Rattle.vitals.proofs.steps.divide.divide.Reads as divide-reads
 
 module _ (z : ℤ) (by : ℕ) (h : natAbs z ≤ 32768 * by) (few : by ≤ 32767) where
   small : natAbs z ≤ 1073741824
@@ -61,11 +57,9 @@ small-quotient-2 c =
     let a = c .before .before .args in let p = c .before .before .pre in
     omega (arith, quotient-2 c, div-le-self (natAbs (a .sum)) (a .d .by), small (a .sum) (a .d .by) (p .1) (p .0 .few))
 
--- src/steps/series.rt:95:48
 sub-divide : tie.Need-sub-divide
 sub-divide c = rw (self (c .before .args .sum) (c .before .args .d .by) (c .before .pre .1) (c .before .pre .0 .few)) (fits-minus (c .before .args .sum) (c .before .args .d .by) (c .before .pre .1) (c .before .pre .0 .few))
 
--- src/steps/series.rt:95:47
 cast-divide : tie.Need-cast-divide
 cast-divide c =
     let a = c .before .args in let p = c .before .pre in
@@ -73,21 +67,17 @@ cast-divide c =
     rw (turned (a .sum) (a .d .by) (p .1) (p .0 .few))
     (neg-not-neg (a .sum) t, record { fits = omega (arith, abs-minus (a .sum), small (a .sum) (a .d .by) (p .1) (p .0 .few)) })
 
--- src/steps/series.rt:95:18
 divide-requires : tie.Need-divide-requires
 divide-requires c κs =
     let a = c .before .args in let p = c .before .pre in
     rw (turned (a .sum) (a .d .by) (p .1) (p .0 .few)) (p .0, omega (arith, abs-minus (a .sum)))
 
--- src/steps/series.rt:95:18
 cast-result : tie.Need-cast-result
 cast-result c = sfits-abs {w = w32} (pos (c .divide .result)) (omega (arith, small-quotient c))
 
--- src/steps/series.rt:95:16
 sub-result : tie.Need-sub-result
 sub-result c = minus-fits w32 (c .divide .result) (omega (arith, small-quotient c))
 
--- src/steps/series.rt:95:9
 returns : tie.Need-returns
 returns c =
     let a = c .before .before .args in let p = c .before .before .pre in
@@ -96,24 +86,20 @@ returns c =
       omega (arith, abs-neg (pos (c .divide .result)), small-quotient c),
     )
 
--- src/steps/series.rt:97:34
 cast-divide-2 : tie.Need-cast-divide-2
 cast-divide-2 c =
     let a = c .before .args in let p = c .before .pre in
     let t = rw (self (a .sum) (a .d .by) (p .1) (p .0 .few)) at (c .if1 .left) in
     rw (self (a .sum) (a .d .by) (p .1) (p .0 .few)) (not-neg (a .sum) t, record { fits = omega (arith, small (a .sum) (a .d .by) (p .1) (p .0 .few)) })
 
--- src/steps/series.rt:97:5
 divide-requires-2 : tie.Need-divide-requires-2
 divide-requires-2 c κs =
     let a = c .before .args in let p = c .before .pre in
     rw (self (a .sum) (a .d .by) (p .1) (p .0 .few)) (p .0, omega arith)
 
--- src/steps/series.rt:97:5
 cast-result-2 : tie.Need-cast-result-2
 cast-result-2 c = sfits-abs {w = w32} (pos (c .divide2 .result)) (omega (arith, small-quotient-2 c))
 
--- src/steps/series.rt:90:1
 returns-2 : tie.Need-returns-2
 returns-2 c =
     let a = c .before .before .args in let p = c .before .before .pre in

@@ -1,15 +1,14 @@
 -- `mean_of` meets its contract. Assumes nothing.
-use mathlib.Core.Path.{_≡_, refl, sym, ap, _∙_}
-use Prim.Native.Nat.{ℕ, _*_, _-_, _/_, _≤_, _<_}
-use native.Mathlib.Nat.{div-le-self}
+use mathlib.Core.Path.{_≡_, refl, _∙_}
+use Prim.Native.Nat.{_*_, _-_, _≤_}
 use native.Mathlib.Omega.{arith}
 use borrow.Author.Needs.{needs, sfits-of}
 use lib.ListN.{length}
-use lib.IntN.{ℤ, pos, natAbs}
+use lib.IntN.{pos, natAbs}
 use lib.Seq.{take-all}
 use lib.Signed.{quotZ}
 use mir.Syntax.{w32}
-use mir.Val.{SFits, toZ, ofZ}
+use mir.Val.{toZ, ofZ}
 use mir.Facts.{toZ-ofZ, toZ-pos}
 use Rattle.num.specs.Sum.{sumZ}
 use Rattle.num.proofs.Abs.{sfits-abs, abs-quot-le}
@@ -17,9 +16,6 @@ use Rattle.vitals.proofs.Windows.{slice-size}
 use borrow.Author.Needs.{needs}
 use Rattle.vitals.proofs.steps.series.mean_of.Statement.{statement}
 use Rattle.vitals.proofs.steps.series.mean_of.Tie as tie
-use Rattle.vitals.proofs.steps.series.mean_of.Reads as reads
-use Rattle.vitals.proofs.steps.series.mean_of.Lts as lts
-use Rattle.vitals.proofs.steps.series.sum_of.Reads as sum-of-reads
 
 value : (c : tie.After-sum-of) → toZ w32 (ofZ w32 (c .sum-of .result)) ≡ sumZ (c .before .args .x .now)
 value c = toZ-ofZ (sfits-of (c .sum-of .ok)) ∙ c .sum-of .ensures
@@ -30,21 +26,17 @@ size c =
     let s : natAbs (sumZ x) ≤ 32768 * (length x - 0) = rw (take-all (length x) x (omega arith)) at (slice-size x 0 (length x) (omega arith) (c .before .pre .2)) in
     omega (arith, abs-quot-le (sumZ x) (pos (length x)))
 
--- src/steps/series.rt:67:9
 sum-of-requires : tie.Need-sum-of-requires
 sum-of-requires c κs = search needs
 
--- src/steps/series.rt:68:12
 cast-result : tie.Need-cast-result
 cast-result c = search needs
 
--- src/steps/series.rt:68:5
 div-result : tie.Need-div-result
 div-result c =
     let x = c .before .args .x .now in
     (omega arith, rw (value c, toZ-pos w32 {n = length x} (omega arith)) (sfits-abs {w = w32} (quotZ (sumZ x) (pos (length x))) (omega (arith, size c))))
 
--- src/steps/series.rt:63:1
 returns : tie.Need-returns
 returns c =
     let x = c .before .args .x .now in

@@ -2,47 +2,37 @@
 use mir.Facts.{toZ-ofZ, sfits-widen}
 use Rattle.num.proofs.Abs.{sfits-abs, abs-sfits, abs-sub}
 use Rattle.num.proofs.Read.{read-16-32}
-use mathlib.Core.Path.{_≡_, refl, sym, ap, _∙_}
-use Prim.Native.Nat.{ℕ, _≤_, _<_}
+use mathlib.Core.Path.{_≡_, _∙_}
+use Prim.Native.Nat.{_≤_}
 use lib.IntN.{ℤ, natAbs, _-ℤ_}
 use mir.Syntax.{w16, w32}
 use mir.Val.{SFits, toZ, ofZ}
-use Rattle.vitals.specs.Series.{clamp16}
 use native.Mathlib.Omega.{arith}
 use borrow.Author.Needs.{needs, sfits-of}
+use Rattle.vitals.proofs.Facts.{reads-back}
 use Rattle.vitals.proofs.steps.series.off.Statement.{statement}
 use Rattle.vitals.proofs.steps.series.off.Tie as tie
-use Rattle.vitals.proofs.steps.series.off.Reads as reads
-use Rattle.vitals.proofs.steps.series.off.Lts as lts
-use Rattle.vitals.proofs.steps.series.clamp_i16.Reads as clamp-i16-reads
-
-self : (m : ℤ) → natAbs m ≤ 1073741824 → toZ w32 (ofZ w32 m) ≡ m
-self m h = toZ-ofZ {w = w32} {z = m} (sfits-abs {w = w32} m (omega arith))
 
 fits : (v m : ℤ) → SFits w16 v → natAbs m ≤ 1073741824 → SFits w32 (v -ℤ m)
 fits v m hv hm = sfits-abs {w = w32} _ (omega (arith, abs-sub v m, abs-sfits v hv))
 
--- src/highpass.rt:156:16
 cast-clamp-i16 : tie.Need-cast-clamp-i16
 cast-clamp-i16 c = rw (toZ-ofZ (c .fits .v)) (sfits-widen tt (c .fits .v))
 
--- src/highpass.rt:156:15
 sub-clamp-i16 : tie.Need-sub-clamp-i16
 sub-clamp-i16 c =
-    rw (toZ-ofZ (c .fits .v), read-16-32 (c .fits .v), self (c .args .mean) (c .pre))
+    rw (toZ-ofZ (c .fits .v), read-16-32 (c .fits .v), reads-back (c .args .mean) (c .pre))
     (fits (c .args .v) (c .args .mean) (c .fits .v) (c .pre))
 
--- src/highpass.rt:156:5
 clamp-i16-requires : tie.Need-clamp-i16-requires
 clamp-i16-requires c κs = search needs
 
--- src/highpass.rt:152:1
 returns : tie.Need-returns
 returns c =
     let v = c .before .args .v in
     let m = c .before .args .mean in
     let f = c .before .fits .v in
-    let e : toZ w32 (ofZ w32 (toZ w16 (ofZ w16 v))) -ℤ toZ w32 (ofZ w32 m) ≡ v -ℤ m = rw (toZ-ofZ f, read-16-32 f, self m (c .before .pre)) in
+    let e : toZ w32 (ofZ w32 (toZ w16 (ofZ w16 v))) -ℤ toZ w32 (ofZ w32 m) ≡ v -ℤ m = rw (toZ-ofZ f, read-16-32 f, reads-back m (c .before .pre)) in
     toZ-ofZ (sfits-of {w = w16} {z = c .clamp-i16 .result} (c .clamp-i16 .ok)) ∙ c .clamp-i16 .ensures ∙
     rw (e, toZ-ofZ {w = w32} {z = v -ℤ m} (fits v m f (c .before .pre)))
 

@@ -2,37 +2,29 @@
 use mir.Facts.{toZ-ofZ, sfits-widen}
 use Rattle.num.proofs.Abs.{sfits-abs, abs-sfits, abs-add}
 use Rattle.num.proofs.Read.{read-16-32}
-use mathlib.Core.Path.{_≡_, refl, _∙_}
 use Prim.Native.Nat.{_≤_}
 use native.Mathlib.Omega.{arith}
 use lib.IntN.{ℤ, natAbs, _+ℤ_}
 use mir.Syntax.{w16, w32}
-use mir.Val.{SFits, toZ, ofZ}
+use mir.Val.{SFits}
+use Rattle.vitals.proofs.Facts.{reads-back}
 use Rattle.vitals.proofs.steps.series.plus.Statement.{statement}
 use Rattle.vitals.proofs.steps.series.plus.Tie as tie
-use Rattle.vitals.proofs.steps.series.plus.Reads as reads
-use Rattle.vitals.proofs.steps.series.plus.Lts as lts
 
 fits : (s v : ℤ) → natAbs s ≤ 1073741824 → SFits w16 v → SFits w32 (s +ℤ v)
 fits s v h hv = sfits-abs {w = w32} (s +ℤ v) (omega (arith, abs-add s v, abs-sfits v hv))
 
-self : (s : ℤ) → natAbs s ≤ 1073741824 → toZ w32 (ofZ w32 s) ≡ s
-self s h = toZ-ofZ {w = w32} {z = s} (sfits-abs {w = w32} s (omega arith))
-
--- src/highpass.rt:34:12
 cast-result : tie.Need-cast-result
 cast-result c = rw (toZ-ofZ (c .fits .v)) (sfits-widen tt (c .fits .v))
 
--- src/highpass.rt:34:5
 add-result : tie.Need-add-result
 add-result c =
-    rw (self (c .args .sum) (c .pre), toZ-ofZ (c .fits .v), read-16-32 (c .fits .v))
+    rw (reads-back (c .args .sum) (c .pre), toZ-ofZ (c .fits .v), read-16-32 (c .fits .v))
     (fits (c .args .sum) (c .args .v) (c .pre) (c .fits .v))
 
--- src/highpass.rt:30:1
 returns : tie.Need-returns
 returns c =
-    rw (self (c .args .sum) (c .pre), toZ-ofZ (c .fits .v), read-16-32 (c .fits .v))
+    rw (reads-back (c .args .sum) (c .pre), toZ-ofZ (c .fits .v), read-16-32 (c .fits .v))
     (toZ-ofZ {w = w32} (fits (c .args .sum) (c .args .v) (c .pre) (c .fits .v)))
 
 pub plus-spec : {M : Type 1} → statement M

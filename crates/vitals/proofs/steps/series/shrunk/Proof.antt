@@ -1,12 +1,10 @@
 -- `shrunk` meets its contract. Assumes nothing.
-use mathlib.Core.Path.{_≡_, refl, sym, ap, _∙_}
-use Prim.Native.Nat.{ℕ, _+_, _≤_, _<_}
+use mathlib.Core.Path.{_≡_, refl, _∙_}
 use native.Mathlib.Omega.{arith}
 use borrow.Author.Needs.{needs, sfits-of}
-use lib.ListN.{length}
-use lib.IntN.{ℤ, natAbs, _-ℤ_}
+use lib.IntN.{_-ℤ_}
 use mir.Syntax.{w16, w32}
-use mir.Val.{SFits, toZ, ofZ}
+use mir.Val.{toZ, ofZ}
 use mir.Facts.{toZ-ofZ}
 use Rattle.num.proofs.Abs.{sfits-abs}
 use Rattle.vitals.specs.Series.{at}
@@ -14,19 +12,13 @@ use Rattle.vitals.proofs.Windows.{room, shorter}
 use borrow.Author.Needs.{needs}
 use Rattle.vitals.proofs.steps.series.shrunk.Statement.{statement}
 use Rattle.vitals.proofs.steps.series.shrunk.Tie as tie
-use Rattle.vitals.proofs.steps.series.shrunk.Reads as reads
-use Rattle.vitals.proofs.steps.series.shrunk.Lts as lts
-use Rattle.vitals.proofs.steps.series.less.Reads as less-reads
 
--- src/steps/series.rt:148:26
 mul-less : tie.Need-mul-less
 mul-less c = search needs
 
--- src/steps/series.rt:148:26
 shared-slice-copy-out-less : tie.Need-shared-slice-copy-out-less
 shared-slice-copy-out-less c = search needs
 
--- src/steps/series.rt:148:14
 less-requires : tie.Need-less-requires
 less-requires c κs =
     let start = c .before .before in
@@ -34,11 +26,9 @@ less-requires c κs =
     let r = room (start .args .x .now) w (start .pre .0) (start .pre .1) (start .pre .2) in
     rw (toZ-ofZ (sfits-abs {w = w32} (w .sum) (omega arith))) (omega arith)
 
--- src/steps/series.rt:149:13
 add-t8 : tie.Need-add-t8
 add-t8 c = search needs
 
--- src/steps/series.rt:142:1
 returns : tie.Need-returns
 returns c =
     let start = c .before .before .before in

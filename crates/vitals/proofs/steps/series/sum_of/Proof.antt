@@ -1,14 +1,12 @@
 -- `sum_of` meets its contract: the sum so far is that of the samples passed. Assumes nothing.
 use mathlib.Core.Path.{_≡_, refl, sym, ap, _∙_}
-use mathlib.Core.List.{List}
-use Prim.Native.Nat.{ℕ, _+_, _-_, _*_, _≤_, _<_}
+use Prim.Native.Nat.{_+_, _-_, _≤_}
 use native.Mathlib.Omega.{arith}
-use borrow.Author.Needs.{needs, sfits-of}
+use borrow.Author.Needs.{sfits-of}
 use lib.ListN.{length, take}
 use lib.Seq.{take-all}
-use lib.IntN.{ℤ, pos, natAbs, _+ℤ_}
 use mir.Syntax.{w16, w32}
-use mir.Val.{SFits, toZ, ofZ}
+use mir.Val.{toZ, ofZ}
 use mir.Facts.{toZ-ofZ}
 use Rattle.num.specs.Sum.{sumZ}
 use Rattle.num.proofs.SumZ.{sum-take-more}
@@ -16,9 +14,6 @@ use Rattle.vitals.proofs.Windows.{slice-size}
 use Rattle.vitals.specs.Series.{at}
 use Rattle.vitals.proofs.steps.series.sum_of.Statement.{statement}
 use Rattle.vitals.proofs.steps.series.sum_of.Tie as tie
-use Rattle.vitals.proofs.steps.series.sum_of.Reads as reads
-use Rattle.vitals.proofs.steps.series.sum_of.Lts as lts
-use Rattle.vitals.proofs.steps.series.plus.Reads as plus-reads
 
 abbrev Inv-loop : tie.InvT-loop
 Inv-loop x sum₀ i₀ i-end sum i =
@@ -27,35 +22,28 @@ Inv-loop x sum₀ i₀ i-end sum i =
 abbrev μ-loop : tie.MeasureT-loop
 μ-loop x sum₀ i₀ i-end sum i = length x - i
 
--- src/steps/series.rt:56:5
 loop-holds : tie.Need-loop-holds Inv-loop μ-loop
 unfolding sumZ
 loop-holds c = (omega arith, refl, refl)
 
--- src/steps/series.rt:57:25
 mul-plus : tie.Need-mul-plus Inv-loop μ-loop
 mul-plus c = omega arith
 
--- src/steps/series.rt:57:25
 shared-slice-copy-out-plus : tie.Need-shared-slice-copy-out-plus Inv-loop μ-loop
 shared-slice-copy-out-plus c = omega arith
 
--- src/steps/series.rt:57:9
 plus-requires : tie.Need-plus-requires Inv-loop μ-loop
 plus-requires c κs =
     let l = c .before .before .loop in
     let start = c .before .before .before in
     rw (l .inv .2) (omega (arith, slice-size (start .args .x .now) 0 (l .i) (l .inv .0) (start .pre .1)))
 
--- src/steps/series.rt:56:9
 add-i : tie.Need-add-i Inv-loop μ-loop
 add-i c = omega arith
 
--- src/steps/series.rt:56:5
 loop-less : tie.Need-loop-less Inv-loop μ-loop
 loop-less c = omega arith
 
--- src/steps/series.rt:56:5
 loop-again : tie.Need-loop-again Inv-loop μ-loop
 loop-again c =
     let l = c .before .before .before .loop in
@@ -65,7 +53,6 @@ loop-again c =
     ∙ rw (l .inv .2, toZ-ofZ (sfits-of {w = w16} {z = at x (l .i)} (c .before .plus-arg .given))) (sym (sum-take-more x (l .i) (omega arith))) in
     (omega arith, refl, e)
 
--- src/steps/series.rt:51:1
 returns : tie.Need-returns Inv-loop μ-loop
 returns c =
     let x = c .before .before .args .x .now in
