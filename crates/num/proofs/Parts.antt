@@ -5,8 +5,8 @@ use mathlib.Core.Path.{_≡_, refl, sym, ap, _∙_}
 use mathlib.Core.List.{List, _++_, append-nil, append-assoc}
 use native.Mathlib.Omega.{arith}
 use lib.ListN.{length, take, drop, length-append, length-drop, drop-of-length-le, take-append-drop}
-use lib.Seq.{length-take-le, take-all, take-at, drop-at, drop-drop}
-use borrow.Rule.Slice.PartMut.{putMid, postOf}
+use lib.Seq.{length-take-le, take-all, take-at, drop-at, drop-drop, take-append-le, drop-append-le}
+use borrow.Rule.Slice.PartMut.{putMid, postOf, same-len-mid}
 
 -- the part that is lent is the rest of the list
 pub part-lent : (a : ℕ) (s : List ℕ) → take (length s - a) (drop a s) ≡ drop a s
@@ -60,3 +60,38 @@ module _ (a : ℕ) (m p : List ℕ) (long : length p ≡ a) where
   -- what is there once both are back
   pub both-back : (q : List ℕ) → putMid a (length (p ++ drop a m) - a) (p ++ drop a m) q ≡ p ++ q
   both-back q = part-back a (p ++ drop a m) q ∙ rw (take-at p (drop a m) a long)
+
+-- a part that came back as long as it was: itself, and the parts beside it
+module _ (a k : ℕ) (s p : List ℕ) (fits : a + k ≤ length s) (long : length p ≡ k) where
+  head-long : length (take a s) ≡ a
+  head-long = length-take-le a s (omega arith)
+
+  -- the list is as long as it was
+  pub put-long : length (putMid a k s p) ≡ length s
+  put-long = same-len-mid a k s p (long ∙ sym (length-take-le k (drop a s) (omega (arith, length-drop a s))))
+
+  -- the part is what came back
+  pub put-own : take k (drop a (putMid a k s p)) ≡ p
+  put-own = rw (drop-at (take a s) (p ++ postOf a k s) a head-long) (take-at p (postOf a k s) k long)
+
+  -- what stands behind it is as it was
+  pub put-behind : (b : ℕ) → a + k ≤ b → drop b (putMid a k s p) ≡ drop b s
+  put-behind b h =
+      let whole : length (take a s ++ p) ≡ a + k = length-append (take a s) p ∙ rw (head-long, long) in
+      let split : (a + k) + (b - (a + k)) ≡ b = omega arith in
+      let here : drop (a + k) (putMid a k s p) ≡ drop (a + k) s =
+      rw (sym (append-assoc (take a s) p (postOf a k s)), drop-at (take a s ++ p) (postOf a k s) (a + k) whole) (drop-drop k a s)
+      in
+      ap (λ (n : ℕ). drop n (putMid a k s p)) (sym split)
+      ∙ sym (drop-drop (b - (a + k)) (a + k) (putMid a k s p))
+      ∙ ap (λ (l : List ℕ). drop (b - (a + k)) l) here
+      ∙ drop-drop (b - (a + k)) (a + k) s
+      ∙ ap (λ (n : ℕ). drop n s) split
+
+  -- and so is a part before it
+  pub put-before : (b j : ℕ) → b + j ≤ a → take j (drop b (putMid a k s p)) ≡ take j (drop b s)
+  put-before b j h =
+      let front : (z : List ℕ) → take j (drop b (take a s ++ z)) ≡ take j (drop b (take a s)) =
+      λ z. rw (drop-append-le b (take a s) z (omega (arith, head-long))) (take-append-le j (drop b (take a s)) z (omega (arith, head-long, length-drop b (take a s))))
+      in
+      front (p ++ postOf a k s) ∙ sym (front (drop a s)) ∙ ap (λ (l : List ℕ). take j (drop b l)) (take-append-drop a s)

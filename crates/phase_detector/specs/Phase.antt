@@ -4,6 +4,7 @@ use mathlib.Core.List.{List, map}
 use lib.IntN.{ℤ, pos}
 use lib.ListN.{replicate}
 use Rattle.window.specs.Window.{columns}
+use Rattle.detector.specs.Calls.{zeroSums}
 use Rattle.detector.specs.Detector.{Kind}
 use Rattle.detector.specs.declared.Limits.{Limits}
 use Rattle.detector.specs.declared.State.{State}
@@ -27,6 +28,10 @@ entries phase = map bits phase
 
 abbrev pub noSums : Sums
 noSums = record { cos = replicate columns (pos 0); sin = replicate columns (pos 0) }
+
+-- the sums of w rows of zeros
+abbrev pub zeroRowSums : ℕ → Sums
+zeroRowSums w = record { cos = zeroSums (angles .add) (angles .none) (angles .f) w columns; sin = zeroSums (angles .add) (angles .none) (angles .g) w columns }
 
 -- a refused push
 abbrev pub refusedAnswer : ℕ → State → Sums → Answer

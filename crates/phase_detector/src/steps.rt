@@ -12,7 +12,7 @@ ghost use Rattle.detector.specs.Calls.{Clears};
 ghost use Rattle.vectors.specs.Tables.{sinQuarter};
 ghost use Rattle.vectors.specs.Vector.{cosAt, sinAt};
 ghost use Rattle.phase_detector.specs.Wander.{angles, carriedPpm, ColumnRange};
-ghost use Rattle.phase_detector.specs.Phase.{phaseKind, limitsOf, entries, noSums};
+ghost use Rattle.phase_detector.specs.Phase.{phaseKind, limitsOf, entries, noSums, zeroRowSums};
 use crate::Config;
 use crate::Sums;
 use detector::Limits;
@@ -174,17 +174,25 @@ pub fn is_valid(rows: &[u8], w: usize, state: State, sums: Sums) -> bool
     false
 }
 
-// Cleared memory: every row is zero. A zero is an angle too, whose cosine is a unit.
-pub fn begin(rows: &mut [u8], w: usize) -> Sums
-    requires { ⌜ (1 ≤ w) × (w ≤ maxRows) × (length (now rows) ≡ 2 * (w * columns)) ⌝ }
-    ensures { λ r. ⌜ Clears phaseKind w columns (now (rows .entry)) (now (rows .exit)) (r .cos) (r .sin) ⌝ }
+// The sums of w rows of zeros. A zero is an angle too, whose cosine is a unit.
+pub fn zero_sums(w: usize) -> Sums
+    requires { ⌜ w ≤ maxRows ⌝ }
+    ensures { λ r. ⌜ r ≡ zeroRowSums w ⌝ }
 {
-    window::clear(rows);
     let cosines = (w * (UNIT as usize)) as i32;
     Sums {
         cos: [cosines; COLUMNS],
         sin: [0i32; COLUMNS],
     }
+}
+
+// Cleared memory: every row is zero.
+pub fn begin(rows: &mut [u8], w: usize) -> Sums
+    requires { ⌜ (1 ≤ w) × (w ≤ maxRows) × (length (now rows) ≡ 2 * (w * columns)) ⌝ }
+    ensures { λ r. ⌜ Clears phaseKind w columns (now (rows .entry)) (now (rows .exit)) (r .cos) (r .sin) ⌝ }
+{
+    window::clear(rows);
+    zero_sums(w)
 }
 
 // The mean over the first `count` columns of their circular variance, in parts per million.

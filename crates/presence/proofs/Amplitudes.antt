@@ -1,10 +1,10 @@
--- The sums of amplitudes: lawful sums, each entry is part of them, and their range. Assumes nothing.
+-- The sums of amplitudes: lawful sums, each entry is part of them, their range, and those of zeros. Assumes nothing.
 use mathlib.Core.Path.{_≡_, refl, sym, ap, _∙_, subst}
 use mathlib.Core.List.{List}
-use Prim.Native.Nat.{ℕ, _+_, _*_, _<_, _≤_}
+use Prim.Native.Nat.{ℕ, zero, suc, _+_, _*_, _<_, _≤_}
 use native.Mathlib.Nat.{add-left-comm, mul-comm, mul-le-mul, mul-le-mul-right}
 use native.Mathlib.Omega.{arith}
-use lib.ListN.{length, take, getD}
+use lib.ListN.{length, take, getD, replicate}
 use Rattle.window.specs.Words.{words}
 use Rattle.window.specs.Window.{column, ringRows}
 use Rattle.window.specs.Sums.{totalBy, Lawful, Ring, first, second}
@@ -44,3 +44,9 @@ module _ (w c : ℕ) (bytes : List ℕ) where
 
   pub ring-range : (sum sumsq : List ℕ) → Ring amplitudes w c bytes sum sumsq → ((i : ℕ) → getD bytes i 0 < 256) → (sc : ℕ) → sc < c → ColumnRange w (getD sum sc 0) (getD sumsq sc 0)
   ring-range sum sumsq ring bytes-fit sc k = rw (ring .sums .firsts sc k, ring .sums .seconds sc k) (column-range bytes-fit sc k)
+
+-- amplitudes of 0 add nothing
+pub zero-amplitudes : (f : ℕ → ℕ) → f 0 ≡ 0 → (w : ℕ) → 0 ≡ totalBy _+_ 0 f (replicate w 0)
+unfolding totalBy
+zero-amplitudes f e zero = refl
+zero-amplitudes f e (suc w) = omega (arith, e, zero-amplitudes f e w)

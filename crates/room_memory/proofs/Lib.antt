@@ -1,1 +1,4 @@
 pub mod Back
+pub mod Bytes
+pub mod Elements
+pub mod Whole

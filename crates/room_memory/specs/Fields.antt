@@ -1,7 +1,7 @@
 -- The small states in memory: which bytes hold which number, low byte first (docs/LAYOUT.md). Assumes nothing.
 use Prim.Native.Nat.{ℕ, _+_, _%_}
-use mathlib.Core.Bool.{Bool, true, false, cond}
-use mathlib.Core.List.{List, [], _∷_, _++_}
+use mathlib.Core.Bool.{Bool, cond}
+use mathlib.Core.List.{List, _∷_, _++_}
 use lib.Dec.{eqb}
 use lib.ListN.{length, getD, take, drop}
 use Rattle.num.specs.Words.{leAt, leBytes}
@@ -21,6 +21,10 @@ detectorLen = 18
 abbrev pub flag : Bool → ℕ
 flag b = cond b 1 0
 
+-- where `present` stands
+abbrev pub presentAt : ℕ
+presentAt = 9
+
 abbrev pub detectorBytes : State → List ℕ
 detectorBytes s =
     (s .count % 256)
@@ -33,7 +37,7 @@ detectorAt m a =
       filled = leAt m (a + 1) 2;
       next = leAt m (a + 3) 2;
       wander = leAt m (a + 5) 4;
-      present = eqb (getD m (a + 9) 0) 1;
+      present = eqb (getD m (a + presentAt) 0) 1;
       «last_motion» = leAt m (a + 10) 8;
     }
 

@@ -46,7 +46,7 @@ pub(crate) fn detector_at(m: &[u8], at: usize) -> State
         filled: u16_at(m, at + 1) as usize,
         next: u16_at(m, at + 3) as usize,
         wander: u32_at(m, at + 5),
-        present: m[at + 9] == 1,
+        present: m[at + crate::PRESENT_AT] == 1,
         last_motion: u64_at(m, at + 10),
     }
 }

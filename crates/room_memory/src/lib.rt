@@ -26,6 +26,9 @@ pub(crate) const BASELINE_AT: usize = 173;
 
 pub(crate) const FALL_AT: usize = 183;
 
+// Where a detector's `present` stands in its bytes.
+pub(crate) const PRESENT_AT: usize = 9;
+
 pub(crate) const SUM_AT: usize = 202;
 
 pub(crate) const SUMSQ_AT: usize = SUM_AT + 4 * COLUMNS;

@@ -3,7 +3,7 @@ ghost use mathlib.Core.Path.{_≡_};
 ghost use mathlib.Core.List.{_++_};
 ghost use Prim.Native.Nat.{_≤_};
 ghost use lib.ListN.{length, take, drop};
-ghost use Rattle.room_memory.specs.Header.{headerLen, settingsLen, sumAt, stateAt, smallBytes, columnBytes, stateBytes};
+ghost use Rattle.room_memory.specs.Header.{headerLen, settingsLen, sumAt, stateAt, smallBytes, columnBytes, stateBytes, Small, flags};
 use crate::RoomState;
 use window::COLUMNS;
 
@@ -33,6 +33,17 @@ pub fn load(m: &[u8]) -> RoomState
         baseline: crate::fields::baseline_at(m, crate::BASELINE_AT),
         fall: crate::fields::fall_at(m, crate::FALL_AT),
     }
+}
+
+// Whether both flags are 0 or 1.
+pub fn flags_valid(m: &[u8]) -> bool
+    requires { ⌜ headerLen ≤ length (now m) ⌝ }
+    ensures { λ r. ⌜ r ≡ flags (now (m .entry)) ⌝ }
+{
+    if m[crate::PRESENCE_AT + crate::PRESENT_AT] > 1 {
+        return false;
+    }
+    m[crate::PHASE_AT + crate::PRESENT_AT] <= 1
 }
 
 // Writes the small states.
@@ -78,10 +89,12 @@ fn store_columns(
     crate::arrays::put_u32s(m, crate::HEART_ACC_AT, heart);
 }
 
-// Writes the header behind the settings.
+// Writes the header behind the settings. What is stored is what `load` gives.
 pub fn store(m: &mut [u8], s: RoomState)
     requires { ⌜ headerLen ≤ length (now m) ⌝ }
+    requires { ⌜ Small s ⌝ }
     ensures { λ _. ⌜ now (m .exit) ≡ take settingsLen (now (m .entry)) ++ (stateBytes s ++ drop headerLen (now (m .entry))) ⌝ }
+    ensures { λ _. ⌜ stateAt (now (m .exit)) ≡ s ⌝ }
 {
     let amplitudes = s.presence_sums;
     let angles = s.phase_sums;

@@ -35,7 +35,7 @@ module _ (S : Sensing) (laws : Laws S) (M : Memory S) (new-memory : NewMemory S 
     pub long : length m′ ≡ length m
     pub holds : Holds m′ (newRoom S (S .settings g))
 
-  is-new : (m m′ : List ℕ) (g : S .Given) → beginRefusal S g (length m) ≡ 0 → m′ ≡ M .new (S .settings g) → New m m′ g
+  is-new : (m m′ : List ℕ) (g : S .Given) → beginRefusal S g (length m) ≡ 0 → m′ ≡ M .new g → New m m′ g
   unfolding detect
   is-new m m′ g ok is =
       let f = fits-by (S .legal g) (length m) (S .memorySize (S .settings g)) ok in
@@ -53,7 +53,7 @@ module _ (S : Sensing) (laws : Laws S) (M : Memory S) (new-memory : NewMemory S 
       → Goes m (begin g) (begun r) m′ room
   begin-goes m g r m′ room B h = go (eqb (beginRefusal S g (length m)) 0) refl (B .leaves)
     where
-      go : (b : Bool) → eqb (beginRefusal S g (length m)) 0 ≡ b → m′ ≡ cond b (M .new (S .settings g)) m → Goes m (begin g) (begun r) m′ room
+      go : (b : Bool) → eqb (beginRefusal S g (length m)) 0 ≡ b → m′ ≡ cond b (M .new g) m → Goes m (begin g) (begun r) m′ room
       go true e is =
           let n = is-new m m′ g (eqb-true _ _ e) is in
           record { same = ap begun (B .answer); long = n .long; holds = rw e (n .holds) }
@@ -84,7 +84,7 @@ module _ (S : Sensing) (laws : Laws S) (M : Memory S) (new-memory : NewMemory S 
 
   first : {m m′ : List ℕ} {g : S .Given} {r : Return} → beginRefusal S g (length m) ≡ 0 → Kept S M m (begin g) r m′ → (r ≡ begun 0) × New m m′ g
   first ok (begins {m = m} {m′ = m′} {g = g} {r = r} B) =
-      (ap begun (B .answer ∙ ok), is-new m m′ g ok (B .leaves ∙ ap (λ (n : ℕ). cond (eqb n 0) (M .new (S .settings g)) m) ok))
+      (ap begun (B .answer ∙ ok), is-new m m′ g ok (B .leaves ∙ ap (λ (n : ℕ). cond (eqb n 0) (M .new g) m) ok))
 
   module _ (Called : List ℕ → Call S → Return → List ℕ → Type 0) (keeps : Keeps S M Called) where
     from-here : {m m′ : List ℕ} {cs : List (Call S)} {rs : List Return} (room : Room S) → Execution S Called m cs rs m′ → Holds m room

@@ -1,40 +1,32 @@
--- `phase_detector::steps::begin` meets its contract: a row of zeros adds 16,384 to each sum of cosines. Assumes nothing.
-use Prim.Native.Nat.{ℕ, _*_, _^_, _<_}
-use native.Mathlib.Omega.{arith}
+-- `phase_detector::steps::begin` meets its contract. Assumes nothing.
+use mathlib.Core.Path.{_≡_, refl}
+use Prim.Native.Nat.{ℕ}
 use borrow.Author.Needs.{needs}
-use lib.IntN.{pos}
-use mir.Syntax.{w32}
-use mir.Facts.{toZ-pos}
+use lib.ListN.{replicate}
 use Rattle.window.specs.Window.{columns}
+use Rattle.window.specs.Sums.{totalBy}
 use Rattle.detector.proofs.Calls.{cleared}
 use Rattle.phase_detector.specs.Phase.{phaseKind}
-use Rattle.phase_detector.proofs.Angles.{zero-cosines, zero-sines}
+use Rattle.phase_detector.specs.Wander.{angles}
 use Rattle.phase_detector.proofs.steps.begin.Statement.{statement}
 use Rattle.phase_detector.proofs.steps.begin.Tie as tie
 
 clear-requires : tie.Need-clear-requires
 clear-requires c κs = search needs
 
-cast-cosines : tie.Need-cast-cosines
-cast-cosines c = search needs
-
-mul-cosines : tie.Need-mul-cosines
-mul-cosines c = search needs
-
-cast-cosines-2 : tie.Need-cast-cosines-2
-cast-cosines-2 c = search needs
+zero-sums-requires : tie.Need-zero-sums-requires
+zero-sums-requires c κs = search needs
 
 same-length : tie.Need-same-length
 same-length c = search needs
 
 returns : tie.Need-returns
 returns c =
-    let at-clear = c .before .before in
-    let start = at-clear .before .before .before in
+    let start = c .before .before .before .before .before .before in
     let a = start .args in
-    let small : a .w * 16384 < 2 ^ 31 = omega (arith, start .pre .1) in
-    rw (at-clear .clear .ensures, toZ-pos w32 small)
-    (cleared phaseKind (a .w) columns (a .rows .now) (start .pre .0) (start .pre .1) (start .pre .2) (pos (a .w * 16384)) (pos 0) (zero-cosines (a .w)) (zero-sines (a .w)))
+    rw (c .before .before .before .clear .ensures, c .zero-sums .ensures)
+    (cleared phaseKind (a .w) columns (a .rows .now) (start .pre .0) (start .pre .1) (start .pre .2)
+    (totalBy (angles .add) (angles .none) (angles .f) (replicate (a .w) 0)) (totalBy (angles .add) (angles .none) (angles .g) (replicate (a .w) 0)) refl refl)
 
 pub begin-spec : {M : Type 1} → statement M
-begin-spec = tie.close (tie.spec clear-requires cast-cosines mul-cosines cast-cosines-2 same-length returns)
+begin-spec = tie.close (tie.spec clear-requires zero-sums-requires same-length returns)

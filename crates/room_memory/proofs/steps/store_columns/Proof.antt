@@ -1,23 +1,15 @@
 -- `room_memory::steps::store_columns` meets its contract. Assumes nothing.
 use mathlib.Core.Path.{_≡_, _∙_}
-use mathlib.Core.List.{List, map, append-assoc}
-use Prim.Native.Nat.{ℕ, _*_}
+use mathlib.Core.List.{map, append-assoc}
 use native.Mathlib.Omega.{arith}
 use borrow.Author.Needs.{needs}
-use lib.IntN.{ℤ}
-use lib.ListN.{length, length-map}
+use lib.ListN.{length}
 use Rattle.num.specs.Words.{leAll}
-use Rattle.num.proofs.Arrays.{length-leAll}
-use Rattle.num.proofs.Parts.{Front, front-start, front-next}
+use Rattle.num.proofs.Parts.{front-start, front-next}
 use Rattle.room_memory.specs.Arrays.{bits32}
+use Rattle.room_memory.proofs.Bytes.{words-long, bits-long}
 use Rattle.room_memory.proofs.steps.store_columns.Statement.{statement}
 use Rattle.room_memory.proofs.steps.store_columns.Tie as tie
-
-length-bits : (xs : List ℤ) → length xs ≡ 64 → length (leAll 4 (map bits32 xs)) ≡ 256
-length-bits xs h = length-leAll 4 (map bits32 xs) ∙ rw (length-map xs bits32, h)
-
-length-words : (k : ℕ) (xs : List ℕ) → length xs ≡ 64 → length (leAll k xs) ≡ k * 64
-length-words k xs h = length-leAll k xs ∙ rw h
 
 -- each array has a number a column
 module _ (c : tie.Start) where
@@ -65,12 +57,12 @@ returns c =
     let start = c .before .before .before .before .before .before .before .before .before .before .before .before .before .before .before .before .before .before .before .before .before .before .before .before .before .before .before .before .before in
     let a = start .args in
     let f₀ = front-start 202 (a .m .now) (omega (arith, start .pre)) in
-    let f₁ = front-next 256 (leAll 4 (a .amplitudes .sum)) _ f₀ (length-words 4 (a .amplitudes .sum) (sum-long start)) (c .before .before .before .before .before .before .before .before .before .before .before .before .before .before .before .before .before .before .before .before .before .before .put-u32s .ensures) in
-    let f₂ = front-next 512 (leAll 8 (a .amplitudes .sumsq)) _ f₁ (length-words 8 (a .amplitudes .sumsq) (sumsq-long start)) (c .before .before .before .before .before .before .before .before .before .before .before .before .before .before .before .before .before .before .put-u64s .ensures) in
-    let f₃ = front-next 256 (leAll 4 (map bits32 (a .angles .cos))) _ f₂ (length-bits (a .angles .cos) (cos-long start)) (c .before .before .before .before .before .before .before .before .before .before .before .before .before .before .put-i32s .ensures) in
-    let f₄ = front-next 256 (leAll 4 (map bits32 (a .angles .sin))) _ f₃ (length-bits (a .angles .sin) (sin-long start)) (c .before .before .before .before .before .before .before .before .before .before .put-i32s2 .ensures) in
-    let f₅ = front-next 256 (leAll 4 (a .breathing)) _ f₄ (length-words 4 (a .breathing) (breathing-long start)) (c .before .before .before .before .before .before .put-u32s2 .ensures) in
-    let f₆ = front-next 256 (leAll 4 (a .heart)) _ f₅ (length-words 4 (a .heart) (heart-long start)) (c .before .before .put-u32s3 .ensures) in
+    let f₁ = front-next 256 (leAll 4 (a .amplitudes .sum)) _ f₀ (words-long 4 (a .amplitudes .sum) (sum-long start)) (c .before .before .before .before .before .before .before .before .before .before .before .before .before .before .before .before .before .before .before .before .before .before .put-u32s .ensures) in
+    let f₂ = front-next 512 (leAll 8 (a .amplitudes .sumsq)) _ f₁ (words-long 8 (a .amplitudes .sumsq) (sumsq-long start)) (c .before .before .before .before .before .before .before .before .before .before .before .before .before .before .before .before .before .before .put-u64s .ensures) in
+    let f₃ = front-next 256 (leAll 4 (map bits32 (a .angles .cos))) _ f₂ (bits-long (a .angles .cos) (cos-long start)) (c .before .before .before .before .before .before .before .before .before .before .before .before .before .before .put-i32s .ensures) in
+    let f₄ = front-next 256 (leAll 4 (map bits32 (a .angles .sin))) _ f₃ (bits-long (a .angles .sin) (sin-long start)) (c .before .before .before .before .before .before .before .before .before .before .put-i32s2 .ensures) in
+    let f₅ = front-next 256 (leAll 4 (a .breathing)) _ f₄ (words-long 4 (a .breathing) (breathing-long start)) (c .before .before .before .before .before .before .put-u32s2 .ensures) in
+    let f₆ = front-next 256 (leAll 4 (a .heart)) _ f₅ (words-long 4 (a .heart) (heart-long start)) (c .before .before .put-u32s3 .ensures) in
     f₆ .whole ∙ simp append-assoc
 
 pub store-columns-spec : {M : Type 1} → statement M
