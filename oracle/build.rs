@@ -18,6 +18,7 @@ fn main() {
     let here = PathBuf::from(env::var_os("CARGO_MANIFEST_DIR").unwrap());
     let folder =
         env::var_os(VARIABLE).map_or_else(|| here.join("../../shared/docs/src"), PathBuf::from);
+    let out = PathBuf::from(env::var_os("OUT_DIR").unwrap());
     let mut modules = String::new();
     for name in FILES {
         let file = folder.join(name).with_extension("rs");
@@ -28,8 +29,23 @@ fn main() {
         };
         println!("cargo:rerun-if-changed={}", file.display());
         modules += &format!("#[path = {file:?}]\npub mod {name};\n");
+        if name == "phase" {
+            let text = fs::read_to_string(&file).unwrap();
+            fs::write(out.join("unit_vector.rs"), unit_vector(&text)).unwrap();
+        }
     }
     println!("cargo:rerun-if-env-changed={VARIABLE}");
-    let out = PathBuf::from(env::var_os("OUT_DIR").unwrap());
     fs::write(out.join("radar.rs"), modules).unwrap();
+}
+
+/// The Rust's unit vectors, which it keeps to itself: the text of the table and of the function.
+fn unit_vector(text: &str) -> String {
+    let part = |from: &str, to: &str| {
+        let start = text.find(from).expect(from);
+        let length = text[start..].find(to).expect(to) + to.len();
+        &text[start..start + length]
+    };
+    let table = part("const SIN_QUARTER", "];\n");
+    let function = part("const fn unit_vector", "\n}\n");
+    format!("{table}\npub {function}")
 }

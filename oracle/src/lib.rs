@@ -5,6 +5,11 @@ pub mod radar {
     include!(concat!(env!("OUT_DIR"), "/radar.rs"));
 }
 
+/// The Rust's own unit vectors, cut out of phase.rs as it is built.
+pub mod vectors {
+    include!(concat!(env!("OUT_DIR"), "/unit_vector.rs"));
+}
+
 pub use rusty_esp_core::{Error, Micros};
 
 pub mod calls;
@@ -12,6 +17,7 @@ pub mod detectors;
 pub mod differ;
 pub mod layout;
 pub mod lines;
+pub mod memory;
 pub mod random;
 pub mod room;
 pub mod samples;

@@ -47,27 +47,18 @@ impl Settings {
             w: w as u16,
             n: random.pick(BLOCKS) as u16,
             presence: Config {
-                on_permille: random.below(200) as u16,
-                off_permille: random.below(200) as u16,
+                on_permille: threshold(random, 200) as u16,
+                off_permille: threshold(random, 200) as u16,
                 hold: duration(random),
             },
             phase: PhaseConfig {
-                on_ppm: random.below(4000) as u32,
-                off_ppm: random.below(4000) as u32,
+                on_ppm: threshold(random, 4000) as u32,
+                off_ppm: threshold(random, 4000) as u32,
                 hold: duration(random),
             },
             breathing: rhythm(random),
             heart: rhythm(random),
-            fall: FallConfig {
-                active_permille: random.below(100) as u16,
-                burst_permille: random.below(400) as u16,
-                still_permille: random.below(100) as u16,
-                min_active: duration(random),
-                quiet_grace: duration(random),
-                settle: duration(random),
-                still_for: duration(random),
-                refractory: duration(random),
-            },
+            fall: falls(random),
         }
     }
 
@@ -95,6 +86,49 @@ impl Settings {
     }
 }
 
+/// The defaults, some by which many falls are suspected, or any.
+fn falls(random: &mut Random) -> FallConfig {
+    match random.below(3) {
+        0 => return FallConfig::normalised_default(),
+        1 => return eager_falls(random),
+        _ => {}
+    }
+    FallConfig {
+        active_permille: threshold(random, 100) as u16,
+        burst_permille: threshold(random, 400) as u16,
+        still_permille: threshold(random, 100) as u16,
+        min_active: duration(random),
+        quiet_grace: duration(random),
+        settle: duration(random),
+        still_for: duration(random),
+        refractory: duration(random),
+    }
+}
+
+/// Low thresholds and a few frames' time.
+fn eager_falls(random: &mut Random) -> FallConfig {
+    let time = |random: &mut Random| Micros(random.below(4) * 20_000);
+    FallConfig {
+        active_permille: random.below(60) as u16,
+        burst_permille: random.below(60) as u16,
+        still_permille: random.below(80) as u16,
+        min_active: time(random),
+        quiet_grace: time(random),
+        settle: time(random),
+        still_for: time(random),
+        refractory: time(random),
+    }
+}
+
+/// Below `most`; now and then any.
+fn threshold(random: &mut Random, most: u64) -> u64 {
+    match random.below(12) {
+        0 => random.word(),
+        1 => random.pick(&[0, u64::MAX]),
+        _ => random.below(most),
+    }
+}
+
 /// None, a few seconds, or any.
 fn duration(random: &mut Random) -> Micros {
     Micros(match random.below(8) {
@@ -104,8 +138,11 @@ fn duration(random: &mut Random) -> Micros {
     })
 }
 
-/// Most often one that comes to an estimate within some hundred frames.
+/// Most often one that comes to an estimate within some hundred frames; now and then any.
 fn rhythm(random: &mut Random) -> VitalsConfig {
+    if random.one_in(8) {
+        return any_rhythm(random);
+    }
     let rate_hz = random.pick(&[1, 2, 10, 25, 100, 999, 1000]);
     // A band of lags from 2 to 150 or so.
     let shortest = random.between(1, 60) as u32;
@@ -120,6 +157,19 @@ fn rhythm(random: &mut Random) -> VitalsConfig {
         update_every: random.pick(&[0, 1, 2, 10, 25, 65_535]),
         accept_permille: random.below(1001) as u16,
         highpass: random.pick(&[0, 0, 1, 2, 3, 24, 25, 511, 512, 65_535]),
+    }
+}
+
+fn any_rhythm(random: &mut Random) -> VitalsConfig {
+    let [lo_mhz, hi_mhz] = [random.any_size(), random.any_size()].map(|end| (end as u32).max(1));
+    let any_block = random.below(32_768) as u16;
+    VitalsConfig {
+        decim: random.pick(&[0, 1, 2, 10, any_block]),
+        rate_hz: random.between(1, 1000) as u32,
+        band: Band { lo_mhz, hi_mhz },
+        update_every: random.any_size() as u16,
+        accept_permille: random.any_size() as u16,
+        highpass: random.any_size() as u16,
     }
 }
 

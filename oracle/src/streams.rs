@@ -4,8 +4,12 @@
 use crate::radar::csi_stream::{MAX_ENCODED_LEN, MAX_IQ, Sample, TAG_C6_HT20_NATURAL};
 use crate::radar::csi_stream::{TAG_DENSE_64, TAG_HTLTF_20MHZ, TAG_LLTF_20MHZ};
 use crate::random::Random;
-use crate::room::{CALIBRATE, MAX_CALIBRATED, RESET, WATCH};
+use crate::room::{CALIBRATE, RESET, WATCH};
 use rusty_esp_core::Micros;
+
+mod scripts;
+
+pub use scripts::{full, recorded, sample, scripted};
 
 const SECOND: u64 = 1_000_000;
 /// Microseconds between two frames.
@@ -57,32 +61,13 @@ pub fn stream(random: &mut Random, frames: u64) -> Vec<u8> {
     link.records
 }
 
-/// The stream shipped with roomlines, which shows each kind of line.
-pub fn demonstration() -> Vec<u8> {
-    let random = &mut Random::new(1);
+/// `frames` samples of one tag to watch, with rising times, in a room that is quiet or in which
+/// someone walks.
+pub fn steady(random: &mut Random, tag: u8, walking: bool, frames: usize) -> Vec<u8> {
     let mut link = Link::new(random);
-    link.tag = TAG_HTLTF_20MHZ;
-    link.records.push(RESET);
-    link.frames(CALIBRATE, Scene::Still, 10);
-    link.frames(WATCH, Scene::Rhythm(150), 700);
-    link.damage();
-    link.fall();
-    link.tag = TAG_C6_HT20_NATURAL;
-    link.frames(WATCH, Scene::Rhythm(40), 270);
-    link.records.push(0);
-    link.records
-}
-
-/// A stream that calibrates until no more frames are taken, then swaps boards.
-pub fn full() -> Vec<u8> {
-    let random = &mut Random::new(1);
-    let mut link = Link::new(random);
-    link.tag = TAG_HTLTF_20MHZ;
-    link.frames(CALIBRATE, Scene::Walk, MAX_CALIBRATED as usize + 2);
-    link.frames(WATCH, Scene::Walk, 1);
-    link.frames(CALIBRATE, Scene::Walk, 1);
-    link.tag = TAG_C6_HT20_NATURAL;
-    link.frames(CALIBRATE, Scene::Walk, 2);
+    link.tag = tag;
+    let scene = if walking { Scene::Walk } else { Scene::Still };
+    link.frames(WATCH, scene, frames);
     link.records
 }
 

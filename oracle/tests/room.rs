@@ -187,7 +187,7 @@ fn calls() {
     let mut random = Random::new(7);
     let mut begun = [0; 3];
     let mut ended = [0; 10];
-    for _ in 0..5 {
+    for _ in 0..20 {
         let (mut host, first) = Host::new(&mut random);
         assert_eq!(host.reply(&first), Reply::Begin(0));
         for _ in 0..40 {

@@ -1,7 +1,4 @@
-pub mod Samples
-pub mod Sensible
-pub mod Judged
-pub mod Rules
-pub mod Demand
-pub mod Runs
-pub mod Bench
+pub mod Kept
+pub mod Sampled
+pub mod Run
+pub mod Tied

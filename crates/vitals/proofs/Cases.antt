@@ -1,22 +1,12 @@
--- Worked cases of document 01. Assumes nothing.
+-- Worked cases. The starred ones of document 01 are in the room's bench table. Assumes nothing.
 use mathlib.Core.Path.{_≡_, refl}
 use mathlib.Core.List.{[], _∷_}
 use lib.IntN.{pos, negsuc}
 use Rattle.num.specs.Lists.{build, first}
 use Rattle.num.specs.Sum.{sumZ}
-use Rattle.vitals.specs.Band.{usable, lagsAnswer, breathingAt, heartAt}
+use Rattle.vitals.specs.Band.{usable, lagsAnswer, heartAt}
 use Rattle.vitals.specs.Series.{highpassed}
 use Rattle.vitals.specs.Peak.{bestLag, peakOr, highest}
-
--- lags 18 to 67, breathing at 10 Hz
-breathing : lagsAnswer (breathingAt 50 .band) 10 ≡ record { refusal = 0; lags = record { lo = 18; hi = 67 } }
-unfolding usable
-breathing = refl
-
--- lags 11 to 36, heart at 25 Hz
-heart : lagsAnswer (heartAt 50 .band) 25 ≡ record { refusal = 0; lags = record { lo = 11; hi = 36 } }
-unfolding usable
-heart = refl
 
 -- a rate of 0 is refused
 no-rate : lagsAnswer (heartAt 50 .band) 0 ≡ record { refusal = 1; lags = record { lo = 0; hi = 0 } }

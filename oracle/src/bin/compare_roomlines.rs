@@ -1,4 +1,5 @@
-//! The program roomlines against the Rust: `compare_roomlines [seed] [streams]`. The program is
+//! The program roomlines against the Rust: `compare_roomlines [seed] [records]`. It is fed the streams
+//! made on purpose and then random ones, until it has had so many records. The program is
 //! ../target/bin/roomlines, or the one that VOLKJARP_ROOMLINES names.
 
 use std::io::{self, Read, Write};
@@ -24,8 +25,9 @@ fn printed(program: &PathBuf, stream: &[u8], random: &mut Random) -> io::Result<
         output.read_to_end(&mut bytes).map(|_| bytes)
     });
     let mut rest = stream;
+    let most = random.pick(&[150, 5_000, 100_000]);
     while !rest.is_empty() {
-        let length = random.between(1, 100_000).min(rest.len() as u64) as usize;
+        let length = random.between(1, most).min(rest.len() as u64) as usize;
         let (piece, behind) = rest.split_at(length);
         rest = behind;
         // A program that has met the end of its stream may have left.
@@ -44,19 +46,25 @@ fn main() -> io::Result<ExitCode> {
         || PathBuf::from(env!("CARGO_MANIFEST_DIR")).join("../target/bin/roomlines"),
         PathBuf::from,
     );
-    let (seed, count) = (argument(1, 1), argument(2, 40));
+    let (seed, records) = (argument(1, 1), argument(2, 500_000));
     let random = &mut Random::new(seed);
     let differ = &mut Differ::new("roomlines", seed);
-    let mut streams = vec![Vec::new(), streams::demonstration(), streams::full()];
-    streams.extend((0..count).map(|_| streams::stream(random, 2000)));
-    for stream in streams {
+    let mut scripted = streams::scripted().into_iter();
+    let (mut streams, mut compared) = (0, 0);
+    while let Some(stream) = scripted
+        .next()
+        .or_else(|| (compared < records).then(|| streams::stream(random, 2000)))
+    {
         let (rust, ours) = (lines(&stream), printed(&program, &stream, random)?);
         // Line by line, so that a difference shows as its line.
         let rust: Vec<&str> = rust.split_inclusive('\n').collect();
         let ours: Vec<&str> = ours.split_inclusive('\n').collect();
         for k in 0..rust.len().max(ours.len()) {
-            differ.compare(&k, &rust.get(k), &ours.get(k));
+            differ.compare(&(streams, k), &rust.get(k), &ours.get(k));
         }
+        streams += 1;
+        compared += rust.len() as u64;
     }
+    println!("roomlines: {compared} records in {streams} streams");
     Ok(differ.finish())
 }

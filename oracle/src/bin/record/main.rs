@@ -39,7 +39,7 @@ fn record(subject: &str) -> Option<(&'static str, Recorded)> {
 }
 
 fn roomlines() -> Recorded {
-    let stdin = streams::demonstration();
+    let stdin = streams::recorded();
     let stdout = lines::lines(&stdin);
     Recorded { stdin, stdout }
 }

@@ -1,0 +1,5 @@
+pub mod Digits
+pub mod Fronts
+pub mod Several
+pub mod Short
+pub mod Worked

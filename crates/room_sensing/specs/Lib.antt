@@ -1,0 +1,6 @@
+pub mod Settings
+pub mod Answers
+pub mod Sensing
+pub mod Rules
+pub mod Runs
+pub mod Bench

@@ -1,0 +1,4 @@
+pub mod Told
+pub mod Restart
+pub mod New
+pub mod Stored

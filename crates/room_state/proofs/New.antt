@@ -1,0 +1,212 @@
+-- A memory just begun: it is good, it means a new unit, and it is what the code's steps of a beginning leave. Assumes nothing.
+--
+--     new-memory      what `unit` asks of a layout
+--     begun-memory    cleared memory with the settings at its front and a new state stored in it
+--     fresh-small     a new state can be stored
+use mathlib.Core.Path.{_≡_, refl, sym, ap, _∙_, subst}
+use mathlib.Core.Bool.{true}
+use mathlib.Core.List.{List, _++_}
+use Prim.Native.Nat.{ℕ, zero, suc, _+_, _-_, _*_, _^_, _≤_, _<_}
+use native.Mathlib.Omega.{arith}
+use lib.Dec.{eqb}
+use lib.IntN.{pos}
+use lib.ListN.{length, getD, take, drop, replicate, length-append, length-replicate, replicate-append-replicate}
+use lib.Seq.{drop-drop, take-at, drop-at}
+use borrow.Author.Tests.{eq-eqb}
+use mir.Syntax.{w32}
+use mir.Val.{SFits}
+use Rattle.num.specs.Sum.{square}
+use Rattle.num.proofs.Abs.{sfits-abs}
+use Rattle.num.proofs.Logic.{both}
+use Rattle.window.specs.Window.{columns, maxRows}
+use Rattle.window.proofs.Ring.{ring-zero}
+use Rattle.detector.proofs.Calls.{valid-new}
+use Rattle.presence.specs.Presence.{presenceKind}
+use Rattle.presence.specs.Wander.{amplitudes, self}
+use Rattle.presence.proofs.Amplitudes.{zero-amplitudes}
+use Rattle.phase_detector.specs.Phase.{phaseKind}
+use Rattle.phase_detector.specs.Wander.{angles}
+use Rattle.phase_detector.proofs.Angles.{zero-cosines, zero-sines}
+use Rattle.estimator.specs.State.{ringLength}
+use Rattle.fall.specs.declared.Phase.the-variants.{Idle}
+use Rattle.fall_words.specs.Stored.{wordsOf}
+use Rattle.fall_words.proofs.Stored.{legal-words}
+use Rattle.unit.specs.Unit.{newView}
+use Rattle.unit.specs.Promises.{NewMemory}
+use Rattle.room_memory.specs.Header.{settingsLen, headerLen, flags, stateAt, stateBytes, Small}
+use Rattle.room_memory.specs.declared.RoomState.{RoomState}
+use Rattle.room_memory.proofs.Whole as header
+use Rattle.room_memory.proofs.Whole.{Full, stored-loaded, flags-stored, state-long, kept-settings, kept-rest}
+use Rattle.room_sensing.specs.Settings.{settingsOf, inRange, legal, memorySize}
+use Rattle.room_sensing.specs.Sensing.{room, Held}
+use Rattle.room_sensing.specs.declared.settings.Settings.{Settings}
+use Rattle.room_sensing.proofs.Judged.{legal-long, legal-ranges}
+use Rattle.room_state.specs.Rings.{partAt, ringsOf, rowsLength}
+use Rattle.room_state.specs.State.{freshState, GoodState, isGood}
+use Rattle.room_state.specs.Memory.{newMemory, goodMemory, viewOf, memory}
+use Rattle.room_state.proofs.Told.{Ranged, ranged, good-told}
+use Rattle.room_state.proofs.Restart.{rhythm-new, baseline-new, restarted-new}
+
+-- ---- parts of zeros
+abbrev zeros : ℕ → List ℕ
+zeros n = replicate n 0
+
+take-zeros : (k n : ℕ) → take k (zeros (k + n)) ≡ zeros k
+take-zeros k n = ap (take k) (sym (replicate-append-replicate k n 0)) ∙ take-at (zeros k) (zeros n) k (length-replicate k 0)
+
+drop-zeros : (a n : ℕ) → drop a (zeros (a + n)) ≡ zeros n
+drop-zeros a n = ap (drop a) (sym (replicate-append-replicate a n 0)) ∙ drop-at (zeros a) (zeros n) a (length-replicate a 0)
+
+part-zeros : (a k n : ℕ) → a + k ≤ n → partAt a k (zeros n) ≡ zeros k
+part-zeros a k n h =
+    let e : n ≡ a + (k + (n - (a + k))) = omega (arith, h) in
+    ap (λ (m : ℕ). partAt a k (zeros m)) e ∙ ap (take k) (drop-zeros a (k + (n - (a + k)))) ∙ take-zeros k (n - (a + k))
+
+-- behind what is put at their front
+zeros-behind : (g : List ℕ) (a k n size : ℕ) → length g ≡ a → size ≡ a + (k + n) → drop (a + k) (g ++ drop a (zeros size)) ≡ zeros n
+zeros-behind g a k n size long e =
+    let rest : drop a (zeros size) ≡ zeros (k + n) = ap (λ (m : ℕ). drop a (zeros m)) e ∙ drop-zeros a (k + n) in
+    sym (drop-drop k a (g ++ drop a (zeros size))) ∙ ap (drop k) (drop-at g (drop a (zeros size)) a long ∙ rest) ∙ drop-zeros k n
+
+-- ---- a new state
+-- what holds of a and of the default holds of each element of n times a
+each : {A : Type 0} (P : A → Type 0) (n : ℕ) (a d : A) → P a → P d → (j : ℕ) → P (getD (replicate n a) j d)
+each P zero a d p q j = q
+each P (suc n) a d p q zero = p
+each P (suc n) a d p q (suc j) = each P n a d p q j
+
+fresh-full : (w : ℕ) → Full (freshState w)
+fresh-full w = record { sum = refl; sumsq = refl; cos = refl; sin = refl; breathing = refl; heart = refl }
+
+pub fresh-small : (w : ℕ) → Small (freshState w)
+fresh-small w =
+    record {
+      presence-count = omega arith;
+      presence-filled = omega arith;
+      presence-next = omega arith;
+      phase-count = omega arith;
+      phase-filled = omega arith;
+      phase-next = omega arith;
+      breathing-count = omega arith;
+      breathing-filled = omega arith;
+      breathing-next = omega arith;
+      breathing-acc = omega arith;
+      breathing-since = omega arith;
+      heart-count = omega arith;
+      heart-filled = omega arith;
+      heart-next = omega arith;
+      heart-acc = omega arith;
+      heart-since = omega arith;
+      baseline-frames = omega arith;
+    }
+
+fresh-ranged : (w : ℕ) → w ≤ maxRows → header.Ranged (freshState w)
+unfolding wordsOf
+fresh-ranged w small =
+    let none : SFits w32 (pos 0) = sfits-abs (pos 0) (omega arith) in
+    let cosines : SFits w32 (pos (w * 16384)) = sfits-abs (pos (w * 16384)) (omega (arith, small)) in
+    record {
+      presence-wander = omega arith;
+      presence-motion = omega arith;
+      phase-wander = omega arith;
+      phase-motion = omega arith;
+      baseline-sum = omega arith;
+      peak = omega arith;
+      a = omega arith;
+      b = omega arith;
+      sum = each (λ (x : ℕ). x < 2 ^ 32) columns 0 0 (omega arith) (omega arith);
+      sumsq = each (λ (x : ℕ). x < 2 ^ 64) columns 0 0 (omega arith) (omega arith);
+      cos = each (SFits w32) columns _ (pos 0) (subst (SFits w32) (zero-cosines w) cosines) none;
+      sin = each (SFits w32) columns _ (pos 0) (subst (SFits w32) (zero-sines w) none) none;
+      breathing = each (λ (x : ℕ). x < 2 ^ 32) columns 0 0 (omega arith) (omega arith);
+      heart = each (λ (x : ℕ). x < 2 ^ 32) columns 0 0 (omega arith) (omega arith);
+    }
+
+-- over rows of zeros it is good
+fresh-good : (σ : Settings) → inRange σ ≡ true → GoodState σ (freshState (σ .w)) (ringsOf σ (zeros (rowsLength σ)))
+fresh-good σ e =
+    let r : Ranged σ = ranged σ e in
+    let k : ℕ = ringLength (σ .w) in
+    let first : partAt 0 k (zeros (rowsLength σ)) ≡ zeros k = part-zeros 0 k (rowsLength σ) (omega arith) in
+    let second : partAt k k (zeros (rowsLength σ)) ≡ zeros k = part-zeros k k (rowsLength σ) (omega arith) in
+    let sums = ring-zero amplitudes (σ .w) columns k 0 0 (r .window .small) refl (zero-amplitudes self refl (σ .w)) (zero-amplitudes square refl (σ .w)) in
+    let vectors = ring-zero angles (σ .w) columns k _ _ (r .window .small) refl refl refl in
+    record {
+      tag = omega arith;
+      presence = rw first (valid-new presenceKind (σ .w) columns (zeros k) _ _ (r .window .some) sums);
+      phase = rw second (valid-new phaseKind (σ .w) columns (zeros k) _ _ (r .window .some) vectors);
+      breathing = rhythm-new (σ .breathing) (σ .n) (r .breathing);
+      heart = rhythm-new (σ .heart) (σ .n) (r .heart);
+      baseline = baseline-new;
+      fall = legal-words Idle;
+    }
+
+-- ---- a new memory
+module _ (g : List ℕ) (ok : legal g ≡ true) where
+  abbrev σ : Settings
+  σ = settingsOf g
+
+  abbrev s : RoomState
+  s = freshState (σ .w)
+
+  abbrev rest : List ℕ
+  rest = zeros (rowsLength σ)
+
+  in-range : inRange σ ≡ true
+  in-range = legal-ranges g ok
+
+  state-size : length (stateBytes s) ≡ 1876
+  state-size = state-long s (fresh-full (σ .w))
+
+  new-settings : take settingsLen (newMemory g) ≡ g
+  unfolding newMemory
+  new-settings = kept-settings g rest s (legal-long g ok)
+
+  new-state : stateAt (newMemory g) ≡ s
+  unfolding newMemory
+  new-state = stored-loaded g rest s (legal-long g ok) (fresh-full (σ .w)) (fresh-small (σ .w)) (fresh-ranged (σ .w) (ranged σ in-range .window .small))
+
+  new-rest : drop headerLen (newMemory g) ≡ rest
+  unfolding newMemory
+  new-rest = kept-rest g rest s (legal-long g ok) state-size
+
+  new-flags : flags (newMemory g) ≡ true
+  unfolding newMemory
+  new-flags = flags-stored g rest s (legal-long g ok)
+
+  new-long : length (newMemory g) ≡ memorySize σ
+  unfolding newMemory memorySize
+  new-long =
+      omega (arith, legal-long g ok, state-size, length-append g (stateBytes s ++ rest), length-append (stateBytes s) rest, length-replicate {A = ℕ} (rowsLength σ) 0)
+
+  new-good : goodMemory (newMemory g) ≡ true
+  unfolding goodMemory
+  new-good =
+      let good : isGood σ s (ringsOf σ rest) ≡ true = good-told σ s (ringsOf σ rest) .1 (fresh-good σ in-range) in
+      rw (new-settings, new-state, new-rest, new-flags, ok, eq-eqb (length (newMemory g)) (memorySize σ) new-long, good)
+
+  new-view : viewOf (newMemory g) ≡ newView room σ
+  unfolding viewOf
+  new-view =
+      rw (new-settings, new-state, new-rest)
+      (ap (λ (h : Held). record { settings = σ; tag = 0; held = h }) (restarted-new σ s (ringsOf σ rest) 0))
+
+pub new-memory : NewMemory room memory
+new-memory = record { is-good = new-good; is-new = new-view; long = new-long }
+
+-- ---- the code's steps: the memory cleared, the settings put at its front, the state stored
+pub begun-memory : (g o m′ : List ℕ) → legal g ≡ true → o ≡ g ++ drop settingsLen (replicate (memorySize (settingsOf g)) 0)
+    → m′ ≡ take settingsLen o ++ (stateBytes (freshState (settingsOf g .w)) ++ drop headerLen o) → m′ ≡ newMemory g
+unfolding newMemory memorySize
+begun-memory g o m′ ok cleared stored =
+    let long : length g ≡ settingsLen = legal-long g ok in
+    let size : ℕ = memorySize (settingsOf g) in
+    let rows : ℕ = rowsLength (settingsOf g) in
+    let front : take settingsLen o ≡ g = ap (take settingsLen) cleared ∙ take-at g (drop settingsLen (zeros size)) settingsLen long in
+    let behind : drop headerLen o ≡ zeros rows = ap (drop headerLen) cleared ∙ zeros-behind g settingsLen 1876 rows size long (omega arith) in
+    stored ∙ rw (front, behind)
+
+-- and it has a header
+pub begin-long : (g : List ℕ) (n : ℕ) → n ≡ memorySize (settingsOf g) → headerLen ≤ n
+unfolding memorySize
+begin-long g n e = omega (arith, e)

@@ -1,0 +1,4 @@
+pub mod Rings
+pub mod Machine
+pub mod Both
+pub mod Feeding

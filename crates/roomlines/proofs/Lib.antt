@@ -1,0 +1,4 @@
+pub mod Counted
+pub mod Meant
+pub mod Moved
+pub mod Pieces

@@ -1,0 +1,102 @@
+//! The unit's three calls, on slices. All unsafe code of this crate is here.
+
+/// What settings need.
+#[repr(C)]
+#[derive(Debug, Clone, Copy, PartialEq, Eq)]
+pub struct MemoryLen {
+    pub refusal: u8,
+    pub len: usize,
+}
+
+/// What a run returns.
+#[repr(C)]
+#[derive(Debug, Clone, Copy, PartialEq, Eq)]
+pub struct Ran {
+    pub refusal: u8,
+    pub need: usize,
+    pub answers: usize,
+    pub used: usize,
+}
+
+// SAFETY: these are the signatures of libroom.a, as include/volkjarp.h has them; the structs are
+// above.
+unsafe extern "C" {
+    fn room_memory_len(settings: *const u8, settings_len: usize) -> MemoryLen;
+    fn room_begin(
+        settings: *const u8,
+        settings_len: usize,
+        memory: *mut u8,
+        memory_len: usize,
+    ) -> u8;
+    fn room_run(
+        memory: *mut u8,
+        memory_len: usize,
+        records: *const u8,
+        records_len: usize,
+        answers: *mut u8,
+        answers_len: usize,
+    ) -> Ran;
+}
+
+/// The length of memory that these settings need, or the refusal.
+pub fn memory_len(settings: &[u8]) -> MemoryLen {
+    // SAFETY: the pointer is a slice's, so not null even if the slice is empty; the call only reads,
+    // only within the length, and keeps nothing.
+    unsafe { room_memory_len(settings.as_ptr(), settings.len()) }
+}
+
+/// A beginning: the refusal, or 0.
+pub fn begin(settings: &[u8], memory: &mut [u8]) -> u8 {
+    // SAFETY: both pointers are slices' and not null. The borrows say that the memory is ours alone
+    // and apart from the settings. The call reads and writes within the lengths and keeps nothing;
+    // any bytes may stand in the memory.
+    unsafe {
+        room_begin(
+            settings.as_ptr(),
+            settings.len(),
+            memory.as_mut_ptr(),
+            memory.len(),
+        )
+    }
+}
+
+/// A run over records, with space for answers.
+pub fn run(memory: &mut [u8], records: &[u8], answers: &mut [u8]) -> Ran {
+    // SAFETY: all three pointers are slices' and not null. The borrows say that memory and answers
+    // are ours alone and that no two of the three overlap. The call reads and writes within the
+    // lengths, whatever bytes they hold, and keeps nothing.
+    unsafe {
+        room_run(
+            memory.as_mut_ptr(),
+            memory.len(),
+            records.as_ptr(),
+            records.len(),
+            answers.as_mut_ptr(),
+            answers.len(),
+        )
+    }
+}
+
+#[cfg(test)]
+mod tests {
+    use super::*;
+    use std::mem::{offset_of, size_of};
+
+    #[test]
+    fn structs_are_as_in_the_header() {
+        let word = size_of::<usize>();
+        assert_eq!(size_of::<MemoryLen>(), 2 * word);
+        assert_eq!(offset_of!(MemoryLen, len), word);
+        assert_eq!(size_of::<Ran>(), 4 * word);
+        assert_eq!(offset_of!(Ran, need), word);
+        assert_eq!(offset_of!(Ran, answers), 2 * word);
+        assert_eq!(offset_of!(Ran, used), 3 * word);
+    }
+
+    #[test]
+    fn empty_slices() {
+        assert_eq!(memory_len(&[]), MemoryLen { refusal: 1, len: 0 });
+        assert_eq!(begin(&[], &mut []), 1);
+        assert_eq!(run(&mut [], &[], &mut []).refusal, 2);
+    }
+}
