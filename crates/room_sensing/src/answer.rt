@@ -1,6 +1,5 @@
 // The answer to one record, and its bytes (docs/LAYOUT.md).
 ghost use mathlib.Core.Path.{_≡_};
-ghost use mathlib.Core.List.{List};
 ghost use Rattle.unit.specs.Sensing.{bytesOf};
 ghost use Rattle.room_sensing.specs.Sensing.{room};
 ghost use Rattle.room_sensing.specs.Answers.{flag, rateBytes, refusedBytes, watchedBytes, learntBytes, resetBytes, answerOf};

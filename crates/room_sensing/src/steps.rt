@@ -3,7 +3,7 @@ ghost use mathlib.Core.Path.{_≡_};
 ghost use Prim.Native.Nat.{_≤_};
 ghost use lib.ListN.{length};
 ghost use Rattle.room_memory.specs.Header.{settingsLen};
-ghost use Rattle.room_sensing.specs.Settings.{settingsOf, memorySize};
+ghost use Rattle.room_sensing.specs.Settings.{settingsOf};
 use crate::settings::Settings;
 
 // The settings that these bytes hold, of any range.

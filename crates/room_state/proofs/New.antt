@@ -8,7 +8,6 @@ use mathlib.Core.Bool.{true}
 use mathlib.Core.List.{List, _++_}
 use Prim.Native.Nat.{ℕ, zero, suc, _+_, _-_, _*_, _^_, _≤_, _<_}
 use native.Mathlib.Omega.{arith}
-use lib.Dec.{eqb}
 use lib.IntN.{pos}
 use lib.ListN.{length, getD, take, drop, replicate, length-append, length-replicate, replicate-append-replicate}
 use lib.Seq.{drop-drop, take-at, drop-at}
@@ -17,7 +16,6 @@ use mir.Syntax.{w32}
 use mir.Val.{SFits}
 use Rattle.num.specs.Sum.{square}
 use Rattle.num.proofs.Abs.{sfits-abs}
-use Rattle.num.proofs.Logic.{both}
 use Rattle.window.specs.Window.{columns, maxRows}
 use Rattle.window.proofs.Ring.{ring-zero}
 use Rattle.detector.proofs.Calls.{valid-new}

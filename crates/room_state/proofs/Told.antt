@@ -1,13 +1,11 @@
 -- The tests of settings and of a unit tell what they say. Assumes nothing.
 use mathlib.Core.Path.{_≡_}
 use mathlib.Core.Bool.{Bool, true, _&&_}
-use Prim.Native.Nat.{ℕ, _≤_}
 use lib.Dec.{leb}
 use Rattle.num.specs.Tests.{Tells}
 use Rattle.num.proofs.Logic.{both}
 use Rattle.num.proofs.Tests.{tells-iff, tells-both, tells-le}
-use Rattle.window.specs.Window.{columns, maxRows}
-use Rattle.detector.specs.Detector.{isValid}
+use Rattle.window.specs.Window.{columns}
 use Rattle.detector.specs.Calls.{isWindow}
 use Rattle.detector.proofs.Calls.{valid-told, Sized, sized}
 use Rattle.presence.specs.Presence.{presenceKind}
