@@ -20,7 +20,9 @@ fn main() {
         Some((name, file))
     }) else {
         let folder = folder.display();
-        eprintln!("{folder} has no library of {subject}: run `rt staticlib {subject}_c`, or set {VARIABLE}");
+        eprintln!(
+            "{folder} has no library of {subject}: run `rt staticlib {subject}_c`, or set {VARIABLE}"
+        );
         exit(1);
     };
     println!(

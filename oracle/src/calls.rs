@@ -4,7 +4,8 @@ use std::fmt;
 
 use crate::layout::{ANSWER_LEN, memory_len, settings_from_bytes, settings_to_bytes};
 use crate::random::Random;
-use crate::room::{self, Answer, PlainRoom, Return};
+use crate::refusals;
+use crate::room::{self, Answer, PlainRoom, RECORD_LEN, Return};
 use crate::settings::Settings;
 use crate::streams::stream;
 
@@ -52,7 +53,7 @@ impl Plain {
             },
             Call::Run { memory, .. } if *memory != self.memory => {
                 let end = Return {
-                    refusal: room::MEMORY,
+                    refusal: refusals::MEMORY,
                     need: 0,
                     answers: 0,
                     used: 0,
@@ -199,9 +200,6 @@ fn with_boundaries(random: &mut Random, records: &[u8]) -> Vec<u8> {
     }
     out
 }
-
-/// The length of a record with a sample.
-const RECORD_LEN: usize = 142;
 
 /// Records of a run that are shown.
 const SHOWN: usize = 30;

@@ -9,15 +9,10 @@ use crate::radar::csi::{Config, Features, PresenceDetector, Verdict};
 use crate::radar::phase::{PhaseConfig, PhaseDetector, Phases};
 use crate::radar::vitals::{Vitals, VitalsConfig, VitalsEstimator};
 
-pub trait Presence {
-    fn push(&mut self, features: &Features, now: Micros) -> Verdict;
-    fn wander(&self) -> u16;
-    fn reset(&mut self);
-}
-
-pub trait Phase {
-    fn push(&mut self, phases: &Phases, now: Micros) -> Verdict;
-    fn wander(&self) -> u32;
+/// A detector over a window of frames `F`; its wander is an `L`.
+pub trait Detector<F, L> {
+    fn push(&mut self, frame: &F, now: Micros) -> Verdict;
+    fn wander(&self) -> L;
     fn reset(&mut self);
 }
 
@@ -26,29 +21,24 @@ pub trait Rhythm {
     fn reset(&mut self);
 }
 
-impl<const W: usize> Presence for PresenceDetector<W> {
-    fn push(&mut self, features: &Features, now: Micros) -> Verdict {
-        PresenceDetector::push(self, features, now)
-    }
-    fn wander(&self) -> u16 {
-        PresenceDetector::wander(self)
-    }
-    fn reset(&mut self) {
-        PresenceDetector::reset(self);
-    }
+macro_rules! detector {
+    ($type:ident of $frame:ty, $level:ty) => {
+        impl<const W: usize> Detector<$frame, $level> for $type<W> {
+            fn push(&mut self, frame: &$frame, now: Micros) -> Verdict {
+                $type::push(self, frame, now)
+            }
+            fn wander(&self) -> $level {
+                $type::wander(self)
+            }
+            fn reset(&mut self) {
+                $type::reset(self);
+            }
+        }
+    };
 }
 
-impl<const W: usize> Phase for PhaseDetector<W> {
-    fn push(&mut self, phases: &Phases, now: Micros) -> Verdict {
-        PhaseDetector::push(self, phases, now)
-    }
-    fn wander(&self) -> u32 {
-        PhaseDetector::wander(self)
-    }
-    fn reset(&mut self) {
-        PhaseDetector::reset(self);
-    }
-}
+detector!(PresenceDetector of Features, u16);
+detector!(PhaseDetector of Phases, u32);
 
 impl<const N: usize> Rhythm for VitalsEstimator<N> {
     fn push(&mut self, features: &Features, now: Micros) -> Option<Vitals> {
@@ -86,11 +76,11 @@ macro_rules! boxed {
 pub const WINDOWS: &[usize] = windows!(list);
 pub const BLOCKS: &[usize] = blocks!(list);
 
-pub fn presence(w: usize, config: Config) -> Box<dyn Presence> {
+pub fn presence(w: usize, config: Config) -> Box<dyn Detector<Features, u16>> {
     windows!(boxed PresenceDetector w config)
 }
 
-pub fn phase(w: usize, config: PhaseConfig) -> Box<dyn Phase> {
+pub fn phase(w: usize, config: PhaseConfig) -> Box<dyn Detector<Phases, u32>> {
     windows!(boxed PhaseDetector w config)
 }
 

@@ -3,6 +3,17 @@
 use std::fmt::Debug;
 use std::process::ExitCode;
 
+use crate::argument;
+use crate::random::Random;
+
+/// A driver's work: its random inputs come from the first word of the command line, or else from 1.
+pub fn compare(subject: &'static str, work: impl FnOnce(&mut Differ, &mut Random)) -> ExitCode {
+    let seed = argument(1, 1);
+    let mut differ = Differ::new(subject, seed);
+    work(&mut differ, &mut Random::new(seed));
+    differ.finish()
+}
+
 pub struct Differ {
     subject: &'static str,
     seed: u64,

@@ -7,7 +7,7 @@ use crate::radar::fall::FallConfig;
 use crate::radar::phase::PhaseConfig;
 use crate::radar::vitals::{Band, Vitals, VitalsConfig};
 use crate::room::Answer;
-use crate::settings::Settings;
+use crate::settings::{Settings, fall_config};
 
 pub const SETTINGS_LEN: usize = 118;
 pub const ANSWER_LEN: usize = 24;
@@ -22,33 +22,48 @@ pub fn memory_len(settings: &Settings) -> usize {
 }
 
 pub fn settings_to_bytes(s: &Settings) -> Vec<u8> {
-    let mut out = Vec::with_capacity(SETTINGS_LEN);
-    out.extend(s.w.to_le_bytes());
-    out.extend(s.n.to_le_bytes());
-    out.extend(s.presence.on_permille.to_le_bytes());
-    out.extend(s.presence.off_permille.to_le_bytes());
-    out.extend(s.presence.hold.0.to_le_bytes());
-    out.extend(s.phase.on_ppm.to_le_bytes());
-    out.extend(s.phase.off_ppm.to_le_bytes());
-    out.extend(s.phase.hold.0.to_le_bytes());
-    for rhythm in [s.breathing, s.heart] {
-        out.extend(rhythm.decim.to_le_bytes());
-        out.extend(rhythm.rate_hz.to_le_bytes());
-        out.extend(rhythm.band.lo_mhz.to_le_bytes());
-        out.extend(rhythm.band.hi_mhz.to_le_bytes());
-        out.extend(rhythm.update_every.to_le_bytes());
-        out.extend(rhythm.accept_permille.to_le_bytes());
-        out.extend(rhythm.highpass.to_le_bytes());
-    }
-    out.extend(s.fall.active_permille.to_le_bytes());
-    out.extend(s.fall.burst_permille.to_le_bytes());
-    out.extend(s.fall.still_permille.to_le_bytes());
-    out.extend(s.fall.min_active.0.to_le_bytes());
-    out.extend(s.fall.quiet_grace.0.to_le_bytes());
-    out.extend(s.fall.settle.0.to_le_bytes());
-    out.extend(s.fall.still_for.0.to_le_bytes());
-    out.extend(s.fall.refractory.0.to_le_bytes());
-    out
+    let (presence, phase) = (&s.presence, &s.phase);
+    let permille = [presence.on_permille, presence.off_permille];
+    [
+        [s.w, s.n].map(u16::to_le_bytes).concat(),
+        permille.map(u16::to_le_bytes).concat(),
+        presence.hold.0.to_le_bytes().to_vec(),
+        [phase.on_ppm, phase.off_ppm].map(u32::to_le_bytes).concat(),
+        phase.hold.0.to_le_bytes().to_vec(),
+        rhythm_to_bytes(&s.breathing),
+        rhythm_to_bytes(&s.heart),
+        fall_to_bytes(&s.fall),
+    ]
+    .concat()
+}
+
+/// The settings of breathing or heart.
+pub fn rhythm_to_bytes(c: &VitalsConfig) -> Vec<u8> {
+    let rates = [c.rate_hz, c.band.lo_mhz, c.band.hi_mhz];
+    let others = [c.update_every, c.accept_permille, c.highpass];
+    [
+        c.decim.to_le_bytes().to_vec(),
+        rates.map(u32::to_le_bytes).concat(),
+        others.map(u16::to_le_bytes).concat(),
+    ]
+    .concat()
+}
+
+/// The settings of falls.
+pub fn fall_to_bytes(c: &FallConfig) -> Vec<u8> {
+    let permille = [c.active_permille, c.burst_permille, c.still_permille];
+    let times = [
+        c.min_active,
+        c.quiet_grace,
+        c.settle,
+        c.still_for,
+        c.refractory,
+    ];
+    [
+        permille.map(u16::to_le_bytes).concat(),
+        times.map(|t| t.0.to_le_bytes()).concat(),
+    ]
+    .concat()
 }
 
 /// The settings that `bytes` hold, of any range; none if the length is wrong.
@@ -73,16 +88,7 @@ pub fn settings_from_bytes(bytes: &[u8]) -> Option<Settings> {
         },
         breathing: b.rhythm(),
         heart: b.rhythm(),
-        fall: FallConfig {
-            active_permille: b.u16(),
-            burst_permille: b.u16(),
-            still_permille: b.u16(),
-            min_active: b.micros(),
-            quiet_grace: b.micros(),
-            settle: b.micros(),
-            still_for: b.micros(),
-            refractory: b.micros(),
-        },
+        fall: fall_config([(); 3].map(|()| b.u16()), [(); 5].map(|()| b.micros())),
     })
 }
 

@@ -86,37 +86,34 @@ impl Settings {
     }
 }
 
-/// The defaults, some by which many falls are suspected, or any.
-fn falls(random: &mut Random) -> FallConfig {
-    match random.below(3) {
-        0 => return FallConfig::normalised_default(),
-        1 => return eager_falls(random),
-        _ => {}
-    }
+/// The thresholds and the durations, in the order of `FallConfig`.
+pub fn fall_config(permille: [u16; 3], times: [Micros; 5]) -> FallConfig {
+    let [active_permille, burst_permille, still_permille] = permille;
+    let [min_active, quiet_grace, settle, still_for, refractory] = times;
     FallConfig {
-        active_permille: threshold(random, 100) as u16,
-        burst_permille: threshold(random, 400) as u16,
-        still_permille: threshold(random, 100) as u16,
-        min_active: duration(random),
-        quiet_grace: duration(random),
-        settle: duration(random),
-        still_for: duration(random),
-        refractory: duration(random),
+        active_permille,
+        burst_permille,
+        still_permille,
+        min_active,
+        quiet_grace,
+        settle,
+        still_for,
+        refractory,
     }
 }
 
-/// Low thresholds and a few frames' time.
-fn eager_falls(random: &mut Random) -> FallConfig {
-    let time = |random: &mut Random| Micros(random.below(4) * 20_000);
-    FallConfig {
-        active_permille: random.below(60) as u16,
-        burst_permille: random.below(60) as u16,
-        still_permille: random.below(80) as u16,
-        min_active: time(random),
-        quiet_grace: time(random),
-        settle: time(random),
-        still_for: time(random),
-        refractory: time(random),
+/// The defaults; low thresholds and a few frames' time, by which many falls are suspected; or any.
+fn falls(random: &mut Random) -> FallConfig {
+    match random.below(3) {
+        0 => FallConfig::normalised_default(),
+        1 => fall_config(
+            [60, 60, 80].map(|most| random.below(most) as u16),
+            [(); 5].map(|()| Micros(random.below(4) * 20_000)),
+        ),
+        _ => fall_config(
+            [100, 400, 100].map(|most| threshold(random, most) as u16),
+            [(); 5].map(|()| duration(random)),
+        ),
     }
 }
 
@@ -173,7 +170,8 @@ fn any_rhythm(random: &mut Random) -> VitalsConfig {
     }
 }
 
-fn rhythm_in_range(config: &VitalsConfig) -> bool {
+/// Whether breathing's or heart's ranges are kept.
+pub fn rhythm_in_range(config: &VitalsConfig) -> bool {
     config.decim <= 32_767
         && (1..=1000).contains(&config.rate_hz)
         && config.band.lo_mhz >= 1

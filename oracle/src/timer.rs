@@ -15,17 +15,9 @@ pub struct Ratio {
 
 impl fmt::Display for Ratio {
     fn fmt(&self, f: &mut fmt::Formatter<'_>) -> fmt::Result {
-        let Ratio {
-            rust,
-            ours,
-            median,
-            least,
-            most,
-        } = self;
-        write!(
-            f,
-            "ratio {median:.2} ({least:.2} to {most:.2}), rust {rust:.2?}, ours {ours:.2?}"
-        )
+        let (least, median, most) = (self.least, self.median, self.most);
+        write!(f, "ratio {median:.2} ({least:.2} to {most:.2}), ")?;
+        write!(f, "rust {:.2?}, ours {:.2?}", self.rust, self.ours)
     }
 }
 

@@ -2,36 +2,25 @@
 
 use oracle::Micros;
 use oracle::detectors;
-use oracle::radar::csi::{Config, CsiFrame, Features, Layout, MAX_SUBCARRIERS};
+use oracle::frames::Frame;
+use oracle::measured::{frame, of_variance};
+use oracle::radar::csi::{Config, Features, Layout, MAX_SUBCARRIERS};
 use oracle::radar::csi_stream::Sample;
 use oracle::radar::fingerprint::Baseline;
-use oracle::radar::phase::{PhaseConfig, Phases, atan2_brad};
+use oracle::radar::phase::{PhaseConfig, atan2_brad};
 use oracle::radar::vitals::Band;
 
 const NOW: Micros = Micros::ZERO;
 
 /// Features with these amplitudes; mean and variance are left out.
 fn features(amplitudes: &[u16]) -> Features {
-    let mut amplitude = [0; MAX_SUBCARRIERS];
-    amplitude[..amplitudes.len()].copy_from_slice(amplitudes);
-    let count = amplitudes.len() as u8;
-    Features {
-        amplitude,
-        count,
-        mean: 0,
-        variance: 0,
-    }
+    Frame::of(amplitudes, 0).features()
 }
 
 fn amplitude(im: i8, re: i8) -> u16 {
     let iq = [im, re].repeat(MAX_SUBCARRIERS);
-    let frame = CsiFrame {
-        timestamp: NOW,
-        rssi: 0,
-        channel: 0,
-        iq: &iq,
-    };
-    frame.features(&Layout::DENSE_64).unwrap().amplitude[0]
+    let features = frame(&iq).features(&Layout::DENSE_64);
+    features.unwrap().amplitude[0]
 }
 
 #[test]
@@ -83,12 +72,7 @@ fn presence_in_the_largest_window() {
 fn phase() {
     let mut phase = detectors::phase(2, PhaseConfig::default());
     for angle in [0, -32_768] {
-        let mut phases = Phases {
-            phase: [0; MAX_SUBCARRIERS],
-            count: 1,
-        };
-        phases.phase[0] = angle;
-        phase.push(&phases, NOW);
+        phase.push(&Frame::of(&[angle], 0).phases(), NOW);
     }
     assert_eq!(phase.wander(), 1_000_000);
 }
@@ -101,14 +85,10 @@ fn lags() {
 
 #[test]
 fn distance() {
-    let of_variance = |variance| Features {
-        variance,
-        ..features(&[1])
-    };
     let mut baseline = Baseline::new();
-    baseline.calibrate(&of_variance(100));
-    baseline.calibrate(&of_variance(101));
-    assert_eq!(baseline.distance(&of_variance(150)), 500);
+    baseline.calibrate(&of_variance(1, 100));
+    baseline.calibrate(&of_variance(1, 101));
+    assert_eq!(baseline.distance(&of_variance(1, 150)), 500);
 }
 
 #[test]

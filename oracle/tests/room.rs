@@ -4,13 +4,10 @@
 use oracle::calls::{Host, Reply};
 use oracle::layout::{ANSWER_LEN, SETTINGS_LEN, memory_len, settings_to_bytes};
 use oracle::lines::lines;
-use oracle::radar::csi_stream::MAX_ENCODED_LEN;
 use oracle::random::Random;
-use oracle::room::{Answer, CALIBRATE, PlainRoom, RESET, Return, WATCH};
+use oracle::room::{Answer, CALIBRATE, PlainRoom, RECORD_LEN, RESET, Return, WATCH};
 use oracle::settings::Settings;
 use oracle::streams::stream;
-
-const RECORD_LEN: usize = 1 + MAX_ENCODED_LEN;
 
 /// A record with a sample of this tag, its other fields 0.
 fn record(kind: u8, tag: u8) -> Vec<u8> {

@@ -2,102 +2,23 @@
 
 use std::process::ExitCode;
 
-use oracle::differ::Differ;
-use oracle::radar::csi::{CsiFrame, Features, MAX_SUBCARRIERS};
-use oracle::radar::csi_stream::layout_of;
+use oracle::argument;
+use oracle::differ::{self, Differ};
+use oracle::measured::{Exported, Measured, features};
+use oracle::radar::csi::{Features, MAX_SUBCARRIERS};
 use oracle::random::Random;
+use oracle::refusals::COUNT;
 use oracle::timer::ratio_over;
-use oracle::{Micros, argument};
-
-#[repr(C)]
-#[derive(Debug, Clone, Copy, PartialEq)]
-struct Ours {
-    amplitude: [u16; MAX_SUBCARRIERS],
-    count: u8,
-    mean: u16,
-    variance: u32,
-}
-
-#[repr(C)]
-#[derive(Debug, Clone, Copy, PartialEq)]
-struct Measured {
-    refusal: u8,
-    features: Ours,
-}
 
 unsafe extern "C" {
     fn csi_features(iq: *const u8, iq_len: usize, tag: u8) -> Measured;
-    fn csi_normalised(f: Ours) -> Measured;
+    fn csi_normalised(f: Exported) -> Measured;
     fn csi_watched(iq: *const u8, iq_len: usize, tag: u8) -> Measured;
 }
-
-/// Document 01's numbers for the refusals met here.
-const TAG: u8 = 4;
-const BYTES: u8 = 5;
-const COUNT: u8 = 7;
 
 /// The I/Q bytes that every layout needs, and the highest tag.
 const NEED: usize = 2 * MAX_SUBCARRIERS;
 const TAGS: u8 = 4;
-
-impl From<Features> for Ours {
-    fn from(f: Features) -> Self {
-        Ours {
-            amplitude: f.amplitude,
-            count: f.count,
-            mean: f.mean,
-            variance: f.variance,
-        }
-    }
-}
-
-impl From<Ours> for Features {
-    fn from(f: Ours) -> Self {
-        Features {
-            amplitude: f.amplitude,
-            count: f.count,
-            mean: f.mean,
-            variance: f.variance,
-        }
-    }
-}
-
-fn refused(refusal: u8) -> Measured {
-    let features = Ours {
-        amplitude: [0; MAX_SUBCARRIERS],
-        count: 0,
-        mean: 0,
-        variance: 0,
-    };
-    Measured { refusal, features }
-}
-
-fn accepted(f: Features) -> Measured {
-    Measured {
-        refusal: 0,
-        features: f.into(),
-    }
-}
-
-fn signed(iq: &[u8]) -> &[i8] {
-    unsafe { std::slice::from_raw_parts(iq.as_ptr().cast(), iq.len()) }
-}
-
-/// The Rust's features, if it gives any. The refusal's number is document 01's.
-fn features(iq: &[u8], tag: u8) -> Result<Features, u8> {
-    let layout = layout_of(tag).ok_or(TAG)?;
-    let frame = CsiFrame {
-        timestamp: Micros(0),
-        rssi: 0,
-        channel: 0,
-        iq: signed(iq),
-    };
-    frame.features(layout).map_err(|_| BYTES)
-}
-
-fn features_rust(iq: &[u8], tag: u8) -> Measured {
-    features(iq, tag).map_or_else(refused, accepted)
-}
 
 fn features_ours(iq: &[u8], tag: u8) -> Measured {
     unsafe { csi_features(iq.as_ptr(), iq.len(), tag) }
@@ -109,10 +30,8 @@ fn watched_ours(iq: &[u8], tag: u8) -> Measured {
 
 /// The Rust takes the first 64 of a count above 64, which document 01 refuses.
 fn normalised_rust(f: &Features) -> Measured {
-    if usize::from(f.count) > MAX_SUBCARRIERS {
-        return refused(COUNT);
-    }
-    accepted(f.normalised())
+    let legal = usize::from(f.count) <= MAX_SUBCARRIERS;
+    legal.then(|| f.normalised()).ok_or(COUNT).into()
 }
 
 fn normalised_ours(f: &Features) -> Measured {
@@ -121,13 +40,10 @@ fn normalised_ours(f: &Features) -> Measured {
 
 /// Features and normalised features of the bytes under a tag.
 fn compare_frame(differ: &mut Differ, iq: &[u8], tag: u8) {
-    differ.compare(
-        &(tag, iq),
-        &features_rust(iq, tag),
-        &features_ours(iq, tag),
-    );
-    let rust = features(iq, tag).map_or_else(refused, |f| accepted(f.normalised()));
-    differ.compare(&(tag, iq, "watched"), &rust, &watched_ours(iq, tag));
+    let rust = features(iq, tag);
+    differ.compare(&(tag, iq), &rust.into(), &features_ours(iq, tag));
+    let rust = rust.map(|f| f.normalised());
+    differ.compare(&(tag, iq, "watched"), &rust.into(), &watched_ours(iq, tag));
 }
 
 fn compare_normalised(differ: &mut Differ, f: &Features) {
@@ -235,28 +151,23 @@ fn measure(random: &mut Random) {
         println!("tag {tag}, features and normalised: {both}");
         let first = ratio_over(&frames, |iq| features(iq, tag), |iq| features_ours(iq, tag));
         println!("tag {tag}, features: {first}");
-        let ready: Vec<Features> = frames
-            .iter()
-            .map(|iq| features(iq, tag).unwrap())
-            .collect();
+        let ready: Vec<Features> = frames.iter().map(|iq| features(iq, tag).unwrap()).collect();
         let second = ratio_over(&ready, |f| f.normalised(), normalised_ours);
         println!("tag {tag}, normalised: {second}");
     }
 }
 
 fn main() -> ExitCode {
-    let seed = argument(1, 1);
-    let random = &mut Random::new(seed);
-    let differ = &mut Differ::new("csi", seed);
-    every_pair(differ);
-    every_length(differ, random);
-    every_place(differ);
-    every_count(differ);
-    for _ in 0..argument(2, 500_000) {
-        let tag = random.between(1, TAGS.into()) as u8;
-        compare_frame(differ, &random_frame(random), tag);
-        compare_normalised(differ, &random_features(random));
-    }
-    measure(random);
-    differ.finish()
+    differ::compare("csi", |differ, random| {
+        every_pair(differ);
+        every_length(differ, random);
+        every_place(differ);
+        every_count(differ);
+        for _ in 0..argument(2, 500_000) {
+            let tag = random.between(1, TAGS.into()) as u8;
+            compare_frame(differ, &random_frame(random), tag);
+            compare_normalised(differ, &random_features(random));
+        }
+        measure(random);
+    })
 }

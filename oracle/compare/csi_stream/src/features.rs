@@ -1,67 +1,20 @@
 //! The features of a record against the Rust's `Sample::features`.
 
-use oracle::Error;
 use oracle::differ::Differ;
-use oracle::radar::csi::{Features, MAX_SUBCARRIERS};
+use oracle::measured::Measured;
 use oracle::radar::csi_stream::{HEADER_LEN, MAX_IQ, Sample};
 use oracle::random::Random;
+use oracle::refusals::number;
 use oracle::samples;
-
-#[repr(C)]
-#[derive(Debug, PartialEq)]
-struct Measured {
-    refusal: u8,
-    features: Ours,
-}
-
-#[repr(C)]
-#[derive(Debug, PartialEq)]
-struct Ours {
-    amplitude: [u16; MAX_SUBCARRIERS],
-    count: u8,
-    mean: u16,
-    variance: u32,
-}
 
 unsafe extern "C" {
     fn csi_sample_features(bytes: *const u8, bytes_len: usize) -> Measured;
 }
 
-/// Document 01's number for the Rust's error.
-fn number(error: Error) -> u8 {
-    match error {
-        Error::InvalidFormat => 3,
-        Error::Unsupported => 4,
-        Error::InvalidGeometry => 5,
-        Error::BufferTooSmall { .. } => unreachable!(),
-    }
-}
-
-fn rust(record: &[u8]) -> Measured {
-    let nothing = Features {
-        amplitude: [0; MAX_SUBCARRIERS],
-        count: 0,
-        mean: 0,
-        variance: 0,
-    };
-    let (refusal, f) = match Sample::decode(record).and_then(|sample| sample.features()) {
-        Ok(f) => (0, f),
-        Err(error) => (number(error), nothing),
-    };
-    Measured {
-        refusal,
-        features: Ours {
-            amplitude: f.amplitude,
-            count: f.count,
-            mean: f.mean,
-            variance: f.variance,
-        },
-    }
-}
-
 fn compare_one(differ: &mut Differ, record: &[u8]) {
+    let rust = Sample::decode(record).and_then(|sample| sample.features());
     let ours = unsafe { csi_sample_features(record.as_ptr(), record.len()) };
-    differ.compare(&record, &rust(record), &ours);
+    differ.compare(&record, &rust.map_err(number).into(), &ours);
 }
 
 /// Every tag over every count of I/Q bytes around what a layout needs; then random and damaged records.
@@ -77,7 +30,11 @@ pub fn compare(differ: &mut Differ, random: &mut Random, records: u64) {
         }
     }
     for _ in 0..records {
-        let n = if random.one_in(4) { random.below(129) as usize } else { MAX_IQ };
+        let n = if random.one_in(4) {
+            random.below(129) as usize
+        } else {
+            MAX_IQ
+        };
         let mut record = samples::legal(random, n);
         if !random.one_in(8) {
             record[1] = random.between(1, 4) as u8;

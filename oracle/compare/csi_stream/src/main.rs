@@ -4,11 +4,11 @@ mod features;
 
 use std::process::ExitCode;
 
-use oracle::differ::Differ;
+use oracle::differ::{self, Differ};
 use oracle::radar::csi_stream::{HEADER_LEN, MAX_ENCODED_LEN, MAX_IQ, Sample, VERSION};
 use oracle::random::Random;
 use oracle::timer::ratio_over;
-use oracle::{Error, Micros, argument, samples};
+use oracle::{Error, Micros, argument, refusals, samples};
 
 #[repr(C)]
 struct Written {
@@ -39,8 +39,8 @@ unsafe extern "C" {
 }
 
 /// Document 01's numbers for the two refusals met here.
-const FORMAT: u64 = 3;
-const SPACE: u64 = 6;
+const FORMAT: u64 = refusals::FORMAT as u64;
+const SPACE: u64 = refusals::SPACE as u64;
 
 /// A sample's numbers, I/Q aside.
 #[derive(Debug, Clone, Copy, PartialEq)]
@@ -245,15 +245,14 @@ fn measure(random: &mut Random) {
 }
 
 fn main() -> ExitCode {
-    let seed = argument(1, 1);
-    let random = &mut Random::new(seed);
-    let differ = &mut Differ::new("csi_stream", seed);
-    every_length(differ, random);
-    every_space(differ, random);
-    for _ in 0..argument(2, 1_000_000) {
-        one_random(differ, random);
-    }
-    features::compare(differ, random, argument(2, 1_000_000) / 4);
-    measure(random);
-    differ.finish()
+    let count = argument(2, 1_000_000);
+    differ::compare("csi_stream", |differ, random| {
+        every_length(differ, random);
+        every_space(differ, random);
+        for _ in 0..count {
+            one_random(differ, random);
+        }
+        features::compare(differ, random, count / 4);
+        measure(random);
+    })
 }

@@ -1,197 +1,19 @@
 //! The fall machine against the Rust: `compare_fall [seed] [random sequences] [timed frames]`.
 
+mod calls;
+mod state;
+
 use std::fmt::Debug;
 use std::process::ExitCode;
 
-use oracle::differ::Differ;
-use oracle::radar::fall::{FallConfig, FallDetector, FallEvent};
+use calls::{Config, Pushed, Ran, Said, Words, push, run};
+use oracle::differ::{self, Differ};
+use oracle::radar::fall::{FallConfig, FallDetector};
 use oracle::random::Random;
+use oracle::refusals::MEMORY;
+use oracle::settings::fall_config;
 use oracle::{Micros, argument, timer};
-
-#[repr(C)]
-#[derive(Debug, Clone, Copy)]
-struct Config {
-    active_permille: u16,
-    burst_permille: u16,
-    still_permille: u16,
-    min_active: u64,
-    quiet_grace: u64,
-    settle: u64,
-    still_for: u64,
-    refractory: u64,
-}
-
-#[repr(C)]
-#[derive(Debug, Clone, Copy, PartialEq)]
-struct Words {
-    tag: u8,
-    peak: u16,
-    a: u64,
-    b: u64,
-}
-
-#[repr(C)]
-#[derive(Debug, Clone, Copy, PartialEq)]
-struct Said {
-    refusal: u8,
-    fall: u8,
-    peak_permille: u16,
-    burst_at: u64,
-    still_since: u64,
-    at: u64,
-}
-
-#[repr(C)]
-#[derive(Debug, Clone, Copy, PartialEq)]
-struct Pushed {
-    words: Words,
-    said: Said,
-}
-
-#[repr(C)]
-#[derive(Debug, Clone, Copy, PartialEq)]
-struct Ran {
-    refusal: u8,
-    words: Words,
-    falls: u64,
-}
-
-unsafe extern "C" {
-    fn fall_push(config: Config, words: Words, wander: u16, now: u64) -> Pushed;
-    fn fall_run(
-        config: Config,
-        words: Words,
-        wanders: *const u16,
-        wanders_len: usize,
-        times: *const u64,
-        times_len: usize,
-    ) -> Ran;
-}
-
-/// Document 01's number for a state out of its range.
-const STATE: u8 = 2;
-
-const IDLE: Words = Words {
-    tag: 0,
-    peak: 0,
-    a: 0,
-    b: 0,
-};
-
-const SILENT: Said = Said {
-    refusal: 0,
-    fall: 0,
-    peak_permille: 0,
-    burst_at: 0,
-    still_since: 0,
-    at: 0,
-};
-
-impl Config {
-    fn rust(&self) -> FallConfig {
-        FallConfig {
-            active_permille: self.active_permille,
-            burst_permille: self.burst_permille,
-            still_permille: self.still_permille,
-            min_active: Micros(self.min_active),
-            quiet_grace: Micros(self.quiet_grace),
-            settle: Micros(self.settle),
-            still_for: Micros(self.still_for),
-            refractory: Micros(self.refractory),
-        }
-    }
-
-    fn of(c: &FallConfig) -> Config {
-        Config {
-            active_permille: c.active_permille,
-            burst_permille: c.burst_permille,
-            still_permille: c.still_permille,
-            min_active: c.min_active.0,
-            quiet_grace: c.quiet_grace.0,
-            settle: c.settle.0,
-            still_for: c.still_for.0,
-            refractory: c.refractory.0,
-        }
-    }
-}
-
-impl Said {
-    fn of(event: Option<FallEvent>) -> Said {
-        event.map_or(SILENT, |e| Said {
-            refusal: 0,
-            fall: 1,
-            peak_permille: e.peak_permille,
-            burst_at: e.burst_at.0,
-            still_since: e.still_since.0,
-            at: e.at.0,
-        })
-    }
-}
-
-/// The Rust's private state, read from how it prints; `shown` prints ours the same way.
-mod state {
-    use super::{FallConfig, Micros, Words};
-
-    #[derive(Debug)]
-    #[allow(dead_code)]
-    enum Phase {
-        Idle,
-        Active {
-            since: Micros,
-            quiet_since: Option<Micros>,
-        },
-        Burst {
-            at: Micros,
-            peak: u16,
-        },
-        Settling {
-            burst_at: Micros,
-            peak: u16,
-            still_since: Micros,
-        },
-        Refractory {
-            until: Micros,
-        },
-    }
-
-    #[derive(Debug)]
-    #[allow(dead_code)]
-    struct FallDetector {
-        config: FallConfig,
-        phase: Phase,
-        events: u32,
-    }
-
-    pub fn shown(config: FallConfig, words: &Words, events: u32) -> String {
-        let &Words { tag, peak, a, b } = words;
-        let (a, b) = (Micros(a), Micros(b));
-        let phase = match tag {
-            0 => Phase::Idle,
-            1 => Phase::Active {
-                since: a,
-                quiet_since: None,
-            },
-            2 => Phase::Active {
-                since: a,
-                quiet_since: Some(b),
-            },
-            3 => Phase::Burst { at: a, peak },
-            4 => Phase::Settling {
-                burst_at: a,
-                peak,
-                still_since: b,
-            },
-            5 => Phase::Refractory { until: a },
-            _ => return format!("{words:?}"),
-        };
-        let detector = FallDetector {
-            config,
-            phase,
-            events,
-        };
-        format!("{detector:?}")
-    }
-}
+use state::{legal, shown};
 
 /// Both machines after the same frames.
 #[derive(Clone)]
@@ -206,14 +28,14 @@ impl Pair {
         Pair {
             config,
             rust: FallDetector::new(config.rust()),
-            ours: IDLE,
+            ours: Words::default(),
         }
     }
 
     /// One frame: what it says, and whether a burst is pending.
     fn push(&mut self, differ: &mut Differ, input: &dyn Debug, wander: u16, now: u64) {
         let rust = Said::of(self.rust.push(wander, Micros(now)));
-        let ours = unsafe { fall_push(self.config, self.ours, wander, now) };
+        let ours = push(self.config, self.ours, wander, now);
         self.ours = ours.words;
         let pending = matches!(self.ours.tag, 3 | 4);
         differ.compare(
@@ -225,7 +47,7 @@ impl Pair {
 
     /// The whole state.
     fn compare_state(&self, differ: &mut Differ, input: &dyn Debug) {
-        let ours = state::shown(self.config.rust(), &self.ours, self.rust.events());
+        let ours = shown(self.config.rust(), &self.ours, self.rust.events());
         differ.compare(input, &format!("{:?}", self.rust), &ours);
     }
 }
@@ -326,26 +148,16 @@ fn one_clock(differ: &mut Differ, pair: &Pair, times: &[u64; LENGTH], path: &mut
 }
 
 fn random_config(random: &mut Random) -> Config {
-    let mut wander = || match random.below(4) {
+    let permille = [(); 3].map(|()| match random.below(4) {
         0 => random.pick(&[0, 1, u16::MAX - 1, u16::MAX]),
         _ => random.below(300) as u16,
-    };
-    let (active_permille, burst_permille, still_permille) = (wander(), wander(), wander());
-    let mut time = || match random.below(8) {
+    });
+    let times = [(); 5].map(|()| match random.below(8) {
         0 => random.pick(&[0, 1, u64::MAX - 1, u64::MAX]),
         1 => random.any_size(),
         _ => random.below(20),
-    };
-    Config {
-        active_permille,
-        burst_permille,
-        still_permille,
-        min_active: time(),
-        quiet_grace: time(),
-        settle: time(),
-        still_for: time(),
-        refractory: time(),
-    }
+    });
+    Config::of(&fall_config(permille, times.map(Micros)))
 }
 
 /// A long sequence: wanders about the thresholds, a clock that mostly goes on.
@@ -390,36 +202,8 @@ fn one_random(differ: &mut Differ, random: &mut Random) {
         falls: u64::from(pair.rust.events()),
     };
     wanders.push(random.word() as u16);
-    let ours = run(config, IDLE, &wanders, &times);
+    let ours = run(config, Words::default(), &wanders, &times);
     differ.compare(&(config, &wanders, &times), &rust, &ours);
-}
-
-fn run(config: Config, words: Words, wanders: &[u16], times: &[u64]) -> Ran {
-    unsafe {
-        fall_run(
-            config,
-            words,
-            wanders.as_ptr(),
-            wanders.len(),
-            times.as_ptr(),
-            times.len(),
-        )
-    }
-}
-
-/// Whether a state has these words: what its tag does not use is 0.
-fn legal(words: &Words) -> bool {
-    let &Words { tag, peak, a, b } = words;
-    let used = [
-        [false, false, false],
-        [false, true, false],
-        [false, true, true],
-        [true, true, false],
-        [true, true, true],
-        [false, true, false],
-    ];
-    used.get(usize::from(tag))
-        .is_some_and(|[p, x, y]| (*p || peak == 0) && (*x || a == 0) && (*y || b == 0))
 }
 
 /// Words of every tag, with and without what the tag does not use: those of no state are refused with 2 and come
@@ -436,36 +220,31 @@ fn every_tag(differ: &mut Differ, random: &mut Random) {
             };
             let config = random_config(random);
             let (wander, now) = (random.word() as u16, random.any_size());
-            let pushed = unsafe { fall_push(config, words, wander, now) };
-            let refusal = if legal(&words) { 0 } else { STATE };
-            let expected = match refusal {
+            let pushed = push(config, words, wander, now);
+            let refusal = if legal(&words) { 0 } else { MEMORY };
+            let refused = Said {
+                refusal,
+                ..Said::default()
+            };
+            let due = match refusal {
                 0 => pushed,
                 _ => Pushed {
                     words,
-                    said: Said { refusal, ..SILENT },
+                    said: refused,
                 },
             };
-            differ.compare(
-                &(config, words),
-                &(refusal, expected),
-                &(pushed.said.refusal, pushed),
-            );
+            let input = (config, words);
+            let ours = (pushed.said.refusal, pushed);
+            differ.compare(&input, &(refusal, due), &ours);
             let ran = |words, falls| Ran {
                 refusal,
                 words,
                 falls,
             };
             let one = ran(pushed.words, u64::from(pushed.said.fall));
-            differ.compare(
-                &(config, words),
-                &one,
-                &run(config, words, &[wander], &[now]),
-            );
-            differ.compare(
-                &(config, words),
-                &ran(words, 0),
-                &run(config, words, &[], &[now]),
-            );
+            differ.compare(&input, &one, &run(config, words, &[wander], &[now]));
+            let none = ran(words, 0);
+            differ.compare(&input, &none, &run(config, words, &[], &[now]));
         }
     }
 }
@@ -486,6 +265,7 @@ fn day(random: &mut Random, frames: u64) -> (Vec<u16>, Vec<u64>) {
 
 fn pace(random: &mut Random, frames: u64) {
     let config = FallConfig::normalised_default();
+    let ours = Config::of(&config);
     let (wanders, times) = day(random, frames);
     let (mut rust_falls, mut our_falls) = (0, 0);
     let ratio = timer::ratio(
@@ -496,29 +276,27 @@ fn pace(random: &mut Random, frames: u64) {
                 rust_falls += u64::from(detector.push(*wander, Micros(*now)).is_some());
             }
         },
-        || our_falls += run(Config::of(&config), IDLE, &wanders, &times).falls,
+        || our_falls += run(ours, Words::default(), &wanders, &times).falls,
     );
     assert_eq!(rust_falls, our_falls);
     println!("fall: {frames} frames, {} falls, {ratio}", our_falls / 42);
 }
 
 fn main() -> ExitCode {
-    let seed = argument(1, 1);
-    let random = &mut Random::new(seed);
-    let differ = &mut Differ::new("fall", seed);
-    for (start, steps) in [
-        (0, [1, 2]),
-        (0, [0, 3]),
-        (9, [2, -1]),
-        (u64::MAX - 6, [1, 2]),
-    ] {
-        every_sequence(differ, &Pair::new(SHORT), &steps, start, &mut Vec::new());
-    }
-    every_wander(differ, random);
-    every_tag(differ, random);
-    for _ in 0..argument(2, 50_000) {
-        one_random(differ, random);
-    }
-    pace(random, argument(3, 1_000_000));
-    differ.finish()
+    differ::compare("fall", |differ, random| {
+        for (start, steps) in [
+            (0, [1, 2]),
+            (0, [0, 3]),
+            (9, [2, -1]),
+            (u64::MAX - 6, [1, 2]),
+        ] {
+            every_sequence(differ, &Pair::new(SHORT), &steps, start, &mut Vec::new());
+        }
+        every_wander(differ, random);
+        every_tag(differ, random);
+        for _ in 0..argument(2, 50_000) {
+            one_random(differ, random);
+        }
+        pace(random, argument(3, 1_000_000));
+    })
 }

@@ -2,21 +2,14 @@
 
 use std::process::ExitCode;
 
-use oracle::differ::Differ;
+use oracle::argument;
+use oracle::differ::{self, Differ};
+use oracle::measured::{Exported, of_variance};
 use oracle::radar::csi::{Features, MAX_SUBCARRIERS};
 use oracle::radar::fingerprint::Baseline;
 use oracle::random::Random;
+use oracle::refusals::{COUNT, FULL, MEMORY};
 use oracle::timer::ratio_over;
-use oracle::argument;
-
-#[repr(C)]
-#[derive(Clone, Copy)]
-struct Frame {
-    amplitude: [u16; MAX_SUBCARRIERS],
-    count: u8,
-    mean: u16,
-    variance: u32,
-}
 
 #[repr(C)]
 #[derive(Debug, Clone, Copy, PartialEq)]
@@ -38,15 +31,12 @@ struct Number {
 }
 
 unsafe extern "C" {
-    fn fingerprint_calibrate(b: Ours, f: Frame) -> Next;
+    fn fingerprint_calibrate(b: Ours, f: Exported) -> Next;
     fn fingerprint_mean(b: Ours) -> Number;
-    fn fingerprint_distance(b: Ours, f: Frame) -> Number;
+    fn fingerprint_distance(b: Ours, f: Exported) -> Number;
 }
 
-/// Document 01's numbers for the refusals met here, and its limit.
-const STATE: u8 = 2;
-const COUNT: u8 = 7;
-const FULL: u8 = 8;
+/// The most frames.
 const MAX_FRAMES: u32 = 65_535;
 
 const NEW: Ours = Ours { sum: 0, frames: 0 };
@@ -60,21 +50,11 @@ struct Of {
 
 impl Of {
     fn rust(self) -> Features {
-        Features {
-            amplitude: [0; MAX_SUBCARRIERS],
-            count: self.count,
-            mean: 0,
-            variance: self.variance,
-        }
+        of_variance(self.count, self.variance)
     }
 
-    fn ours(self) -> Frame {
-        Frame {
-            amplitude: [0; MAX_SUBCARRIERS],
-            count: self.count,
-            mean: 0,
-            variance: self.variance,
-        }
+    fn ours(self) -> Exported {
+        self.rust().into()
     }
 
     /// Document 01's refusal of the count alone.
@@ -159,9 +139,21 @@ fn every_count(differ: &mut Differ) {
             let mut pair = Pair::new();
             pair.distance(differ, of);
             pair.feed(differ, of);
-            pair.distance(differ, Of { count: 1, variance: 500 });
+            pair.distance(
+                differ,
+                Of {
+                    count: 1,
+                    variance: 500,
+                },
+            );
             pair.distance(differ, of);
-            pair.feed(differ, Of { count: 64, variance: 100 });
+            pair.feed(
+                differ,
+                Of {
+                    count: 64,
+                    variance: 100,
+                },
+            );
             pair.feed(differ, of);
         }
     }
@@ -172,7 +164,13 @@ fn to_the_limit(differ: &mut Differ, random: &mut Random, variance: Option<u32>)
     let mut pair = Pair::new();
     for _ in 0..MAX_FRAMES {
         let next = variance.unwrap_or_else(|| random.word() as u32);
-        pair.feed(differ, Of { count: 64, variance: next });
+        pair.feed(
+            differ,
+            Of {
+                count: 64,
+                variance: next,
+            },
+        );
     }
     for count in [1, 64, 0, 65, 255] {
         pair.feed(differ, Of { count, variance: 7 });
@@ -215,14 +213,18 @@ fn out_of_range(differ: &mut Differ, random: &mut Random) {
         let b = Ours { sum, frames };
         let of = random_frame(random);
         let bad = frames > MAX_FRAMES || sum > most;
-        let refusal = if bad { STATE } else { of.refusal() };
+        let refusal = if bad { MEMORY } else { of.refusal() };
         let full = refusal == 0 && of.count != 0 && frames == MAX_FRAMES;
         let next = unsafe { fingerprint_calibrate(b, of.ours()) };
         let distance = unsafe { fingerprint_distance(b, of.ours()) };
         let mean = unsafe { fingerprint_mean(b) };
         differ.compare(
             &(b, of),
-            &(if full { FULL } else { refusal }, refusal, if bad { STATE } else { 0 }),
+            &(
+                if full { FULL } else { refusal },
+                refusal,
+                if bad { MEMORY } else { 0 },
+            ),
             &(next.refusal, distance.refusal, mean.refusal),
         );
         if next.refusal != 0 {
@@ -233,8 +235,11 @@ fn out_of_range(differ: &mut Differ, random: &mut Random) {
 
 /// Prints the times of calibrating a list of frames and of distances as ratios to the Rust's.
 fn measure(random: &mut Random) {
-    let frames: Vec<(Features, Frame)> = (0..10_000)
-        .map(|_| Of { count: 56, variance: random.below(400_000) as u32 })
+    let frames: Vec<(Features, Exported)> = (0..10_000)
+        .map(|_| Of {
+            count: 56,
+            variance: random.below(400_000) as u32,
+        })
         .map(|of| (of.rust(), of.ours()))
         .collect();
     let (mut rust, mut ours) = (Baseline::new(), NEW);
@@ -263,17 +268,15 @@ fn measure(random: &mut Random) {
 }
 
 fn main() -> ExitCode {
-    let seed = argument(1, 1);
-    let random = &mut Random::new(seed);
-    let differ = &mut Differ::new("fingerprint", seed);
-    every_count(differ);
-    to_the_limit(differ, random, Some(u32::MAX));
-    to_the_limit(differ, random, Some(0));
-    to_the_limit(differ, random, None);
-    for _ in 0..argument(2, 100_000) {
-        random_list(differ, random);
-    }
-    out_of_range(differ, random);
-    measure(random);
-    differ.finish()
+    differ::compare("fingerprint", |differ, random| {
+        every_count(differ);
+        to_the_limit(differ, random, Some(u32::MAX));
+        to_the_limit(differ, random, Some(0));
+        to_the_limit(differ, random, None);
+        for _ in 0..argument(2, 100_000) {
+            random_list(differ, random);
+        }
+        out_of_range(differ, random);
+        measure(random);
+    })
 }

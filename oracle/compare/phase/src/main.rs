@@ -3,13 +3,15 @@
 use std::hint::black_box;
 use std::process::ExitCode;
 
-use oracle::differ::Differ;
-use oracle::radar::csi::{CsiFrame, Layout, MAX_SUBCARRIERS};
+use oracle::argument;
+use oracle::differ::{self, Differ};
+use oracle::measured::{frame, phases, put_angles, signed, whole};
+use oracle::radar::csi::MAX_SUBCARRIERS;
 use oracle::radar::csi_stream::{MAX_IQ, layout_of};
 use oracle::radar::phase::{Phases, atan2_brad};
 use oracle::random::Random;
+use oracle::refusals::COUNT;
 use oracle::timer::ratio;
-use oracle::{Error, Micros, argument};
 
 #[repr(C)]
 #[derive(Debug, Clone, Copy)]
@@ -36,39 +38,13 @@ unsafe extern "C" {
     fn phase_of_angles(angles: Angles) -> Measured;
 }
 
-/// Document 01's numbers for the refusals met here.
-const TAG: u8 = 4;
-const FEW_BYTES: u8 = 5;
-const COUNT: u8 = 7;
-
 /// The refusal, or 0 with the phases: the whole array, and how many are in use.
 type Answer = (u8, [i16; MAX_SUBCARRIERS], u8);
 
-const NONE: [i16; MAX_SUBCARRIERS] = [0; MAX_SUBCARRIERS];
-
-/// The Rust's answer, with document 01's number for its error.
-fn phases(iq: &[u8], layout: &Layout, number: u8) -> Answer {
-    let iq: Vec<i8> = iq.iter().map(|&b| b as i8).collect();
-    match frame(&iq).phases(layout) {
+fn rust(phases: Result<Phases, u8>) -> Answer {
+    match phases {
         Ok(Phases { phase, count }) => (0, phase, count),
-        Err(Error::InvalidGeometry) => (number, NONE, 0),
-        Err(other) => unreachable!("{other:?}"),
-    }
-}
-
-fn frame(iq: &[i8]) -> CsiFrame<'_> {
-    CsiFrame {
-        timestamp: Micros(0),
-        rssi: 0,
-        channel: 0,
-        iq,
-    }
-}
-
-fn phases_rust(iq: &[u8], tag: u8) -> Answer {
-    match layout_of(tag) {
-        Some(layout) => phases(iq, layout, FEW_BYTES),
-        None => (TAG, NONE, 0),
+        Err(refusal) => (refusal, [0; MAX_SUBCARRIERS], 0),
     }
 }
 
@@ -81,7 +57,7 @@ fn phases_ours(iq: &[u8], tag: u8) -> Answer {
 }
 
 fn compare_phases(differ: &mut Differ, iq: &[u8], tag: u8) {
-    differ.compare(&(tag, iq), &phases_rust(iq, tag), &phases_ours(iq, tag));
+    differ.compare(&(tag, iq), &rust(phases(iq, tag)), &phases_ours(iq, tag));
 }
 
 /// Every pair of signed bytes.
@@ -140,20 +116,16 @@ fn every_tag(differ: &mut Differ, random: &mut Random) {
 fn every_count(differ: &mut Differ, random: &mut Random) {
     for count in 0..=u8::MAX {
         let n = usize::from(count);
-        let layout = Layout {
-            valid: Box::leak(Box::new([0..n])),
-            entries: n,
-        };
+        let layout = whole(n);
         for _ in 0..100 {
             let iq = bytes(random, 2 * n);
             let mut angle = [0; MAX_SUBCARRIERS];
             angle.fill_with(|| random.word() as i16);
-            for (a, p) in angle.iter_mut().zip(iq.chunks_exact(2)) {
-                *a = atan2_brad(i32::from(p[0] as i8), i32::from(p[1] as i8));
-            }
+            put_angles(&mut angle, &iq);
             let angles = Angles { angle, count };
             let ours = answer(unsafe { phase_of_angles(angles) });
-            differ.compare(&angles, &phases(&iq, &layout, COUNT), &ours);
+            let phases = frame(signed(&iq)).phases(&layout).map_err(|_| COUNT);
+            differ.compare(&angles, &rust(phases), &ours);
         }
     }
 }
@@ -168,13 +140,9 @@ fn measure(random: &mut Random) {
         for tag in 1..=4 {
             let layout = layout_of(tag).unwrap();
             let frames: Vec<Vec<u8>> = (0..2_000).map(|_| make(random, MAX_IQ)).collect();
-            let signed: Vec<Vec<i8>> = frames
-                .iter()
-                .map(|iq| iq.iter().map(|&b| b as i8).collect())
-                .collect();
             let rust = || {
-                for iq in &signed {
-                    let _ = black_box(frame(black_box(iq)).phases(layout));
+                for iq in &frames {
+                    let _ = black_box(frame(signed(black_box(iq))).phases(layout));
                 }
             };
             let ours = || {
@@ -188,17 +156,15 @@ fn measure(random: &mut Random) {
 }
 
 fn main() -> ExitCode {
-    let seed = argument(1, 1);
-    let random = &mut Random::new(seed);
-    let differ = &mut Differ::new("phase", seed);
-    every_angle(differ);
-    every_tag(differ, random);
-    every_count(differ, random);
-    for _ in 0..argument(2, 1_000_000) {
-        let n = if random.one_in(8) { 127 } else { MAX_IQ };
-        let tag = random.between(0, 5) as u8;
-        compare_phases(differ, &bytes(random, n), tag);
-    }
-    measure(random);
-    differ.finish()
+    differ::compare("phase", |differ, random| {
+        every_angle(differ);
+        every_tag(differ, random);
+        every_count(differ, random);
+        for _ in 0..argument(2, 1_000_000) {
+            let n = if random.one_in(8) { 127 } else { MAX_IQ };
+            let tag = random.between(0, 5) as u8;
+            compare_phases(differ, &bytes(random, n), tag);
+        }
+        measure(random);
+    })
 }

@@ -3,7 +3,7 @@
 use oracle::differ::Differ;
 use oracle::layout::{SETTINGS_LEN, memory_len, settings_from_bytes, settings_to_bytes};
 use oracle::random::Random;
-use oracle::room;
+use oracle::refusals;
 use oracle::settings::Settings;
 
 use compare_room::unit::{self, MemoryLen};
@@ -15,7 +15,7 @@ fn due(bytes: &[u8]) -> MemoryLen {
             len: memory_len(&settings),
         },
         None => MemoryLen {
-            refusal: room::SETTINGS,
+            refusal: refusals::SETTINGS,
             len: 0,
         },
     }

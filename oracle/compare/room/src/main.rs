@@ -17,6 +17,7 @@ use oracle::calls::{Call, Host, Plain};
 use oracle::differ::Differ;
 use oracle::layout::{ANSWER_LEN, memory_len, settings_to_bytes};
 use oracle::random::Random;
+use oracle::room::RECORD_LEN;
 use oracle::settings::Settings;
 use oracle::streams::{full, steady, stream};
 
@@ -95,7 +96,7 @@ fn every_space(random: &mut Random) -> Vec<Call> {
     };
     let memory = memory_len(&settings);
     let records = stream(random, 12);
-    let most = ANSWER_LEN * (records.len() / 142 + 2).min(40);
+    let most = ANSWER_LEN * (records.len() / RECORD_LEN + 2).min(40);
     let runs = (0..=most).flat_map(|space| {
         let records = records.clone();
         let run = Call::Run {
@@ -136,7 +137,7 @@ fn in_runs(random: &mut Random, settings: &Settings, records: &[u8], most: u64) 
     let mut calls = vec![beginning(settings)];
     let mut rest = records;
     while !rest.is_empty() {
-        let most = 142 * random.between(1, most) as usize;
+        let most = RECORD_LEN * random.between(1, most) as usize;
         let (run, behind) = rest.split_at(most.min(rest.len()));
         calls.push(Call::Run {
             records: run.to_vec(),

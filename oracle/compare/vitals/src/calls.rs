@@ -1,8 +1,10 @@
 //! The library's calls, and our estimator over them.
 
+use oracle::frames::{self, COLUMNS};
+use oracle::radar::vitals::{self, VitalsConfig};
 use oracle::random::Random;
 
-pub const COLUMNS: usize = 64;
+pub type Frame = frames::Frame<u16>;
 
 #[repr(C)]
 #[derive(Debug, Clone, Copy, PartialEq)]
@@ -20,6 +22,28 @@ pub struct Config {
     pub update_every: u16,
     pub accept_permille: u16,
     pub highpass: u16,
+}
+
+impl From<Band> for vitals::Band {
+    fn from(b: Band) -> Self {
+        vitals::Band {
+            lo_mhz: b.lo_mhz,
+            hi_mhz: b.hi_mhz,
+        }
+    }
+}
+
+impl From<Config> for VitalsConfig {
+    fn from(c: Config) -> Self {
+        VitalsConfig {
+            decim: c.decim,
+            rate_hz: c.rate_hz,
+            band: c.band.into(),
+            update_every: c.update_every,
+            accept_permille: c.accept_permille,
+            highpass: c.highpass,
+        }
+    }
 }
 
 #[repr(C)]
@@ -58,15 +82,7 @@ pub struct Begun {
 }
 
 #[repr(C)]
-#[derive(Clone, Copy)]
-pub struct Frame {
-    pub amplitude: [u16; COLUMNS],
-    pub count: usize,
-    pub time: u64,
-}
-
-#[repr(C)]
-#[derive(Debug, Clone, Copy, PartialEq)]
+#[derive(Debug, Default, Clone, Copy, PartialEq)]
 pub struct Vitals {
     pub bpm_x10: u16,
     pub confidence: u16,
@@ -74,14 +90,6 @@ pub struct Vitals {
     pub accepted: bool,
     pub at: u64,
 }
-
-pub const NONE: Vitals = Vitals {
-    bpm_x10: 0,
-    confidence: 0,
-    lag_x16: 0,
-    accepted: false,
-    at: 0,
-};
 
 #[repr(C)]
 #[derive(Debug, PartialEq)]
@@ -112,21 +120,9 @@ unsafe extern "C" {
         state: State,
         frame: Frame,
     ) -> Pushed;
-    fn vitals_run(
-        rows: *mut u8,
-        rows_len: usize,
-        n: usize,
-        config: Config,
-        amplitudes: *const u16,
-        amplitudes_len: usize,
-        counts: *const u8,
-        counts_len: usize,
-        times: *const u64,
-        times_len: usize,
-        answers: *mut u64,
-        answers_len: usize,
-    ) -> usize;
 }
+
+oracle::exported_run!(pub vitals_run, u16, Config);
 
 pub fn lags(band: Band, rate_hz: u32) -> Covered {
     unsafe { vitals_lags(band, rate_hz) }
@@ -177,41 +173,4 @@ impl Ours {
 
 pub fn begin(rows: &[u8], n: usize, config: Config) -> Begun {
     unsafe { vitals_new(rows.as_ptr(), rows.len(), n, config) }
-}
-
-/// Frames as a run takes them.
-pub struct Frames {
-    pub amplitudes: Vec<u16>,
-    pub counts: Vec<u8>,
-    pub times: Vec<u64>,
-}
-
-impl Frames {
-    pub fn of(frames: &[Frame]) -> Frames {
-        Frames {
-            amplitudes: frames.iter().flat_map(|f| f.amplitude).collect(),
-            counts: frames.iter().map(|f| f.count as u8).collect(),
-            times: frames.iter().map(|f| f.time).collect(),
-        }
-    }
-
-    /// All through a new estimator, by steps; how many were fed.
-    pub fn run(&self, rows: &mut [u8], n: usize, config: Config, answers: &mut [u64]) -> usize {
-        unsafe {
-            vitals_run(
-                rows.as_mut_ptr(),
-                rows.len(),
-                n,
-                config,
-                self.amplitudes.as_ptr(),
-                self.amplitudes.len(),
-                self.counts.as_ptr(),
-                self.counts.len(),
-                self.times.as_ptr(),
-                self.times.len(),
-                answers.as_mut_ptr(),
-                answers.len(),
-            )
-        }
-    }
 }

@@ -1,10 +1,12 @@
 //! Settings and frames that are made up.
 
+use std::array;
 use std::f64::consts::TAU;
 
+use oracle::frames::COLUMNS;
 use oracle::random::Random;
 
-use crate::calls::{Band, COLUMNS, Config, Frame};
+use crate::calls::{Band, Config, Frame};
 
 const BREATHING: Band = Band {
     lo_mhz: 150,
@@ -139,33 +141,30 @@ impl Source {
         }
         self.at += 1;
         self.time = self.time.wrapping_add(20_000);
-        let mut amplitude = [0; COLUMNS];
-        for (sc, a) in amplitude.iter_mut().enumerate() {
-            *a = self.amplitude(random, sc);
-        }
+        let entry = array::from_fn(|column| self.amplitude(random, column));
         let count = if random.one_in(50) { 0 } else { self.count };
         Frame {
-            amplitude,
+            entry,
             count,
             time: self.time,
         }
     }
 
-    fn amplitude(&self, random: &mut Random, sc: usize) -> u16 {
-        let base = f64::from(self.base[sc]);
+    fn amplitude(&self, random: &mut Random, column: usize) -> u16 {
+        let base = f64::from(self.base[column]);
         let at = self.at as f64 / self.period;
         let wave = |turns: f64| (TAU * turns).sin();
         let value = match self.kind {
             Kind::Any => return random.word() as u16,
-            Kind::Equal => return self.base[sc],
+            Kind::Equal => return self.base[column],
             Kind::Extremes => {
-                let high = (at * 2.0) as u64 % 2 == sc as u64 % 2;
+                let high = (at * 2.0) as u64 % 2 == column as u64 % 2;
                 return if high != random.one_in(16) { 65_535 } else { 0 };
             }
             Kind::Noise => base,
-            Kind::Rhythm => base + self.swing[sc] * wave(at),
-            Kind::TwoRhythms => base + self.swing[sc] * (wave(at) + 0.3 * wave(5.3 * at)),
-            Kind::Ramp => base + self.swing[sc] * at,
+            Kind::Rhythm => base + self.swing[column] * wave(at),
+            Kind::TwoRhythms => base + self.swing[column] * (wave(at) + 0.3 * wave(5.3 * at)),
+            Kind::Ramp => base + self.swing[column] * at,
         };
         (value + random.below(self.jitter) as f64) as u16
     }

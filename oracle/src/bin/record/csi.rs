@@ -6,10 +6,10 @@
 //! An answer is `COUNT MEAN VARIANCE CHECK`, or `refused NUMBER`; CHECK is the sum over the whole
 //! array of amplitude · (place + 1), places from 0. Words have the low byte first.
 
-use oracle::Micros;
-use oracle::radar::csi::{CsiFrame, Features, MAX_SUBCARRIERS};
-use oracle::radar::csi_stream::layout_of;
+use oracle::measured::features;
+use oracle::radar::csi::{Features, MAX_SUBCARRIERS};
 use oracle::random::Random;
+use oracle::refusals::COUNT;
 
 use super::Cases;
 
@@ -20,20 +20,26 @@ pub fn cases() -> Cases {
     let random = &mut Random::new(1);
     let mut cases = Cases::default();
     for iq in bench_frames() {
-        TAGS.map(|tag| frame(&mut cases, &iq, tag));
+        for tag in TAGS {
+            frame(&mut cases, &iq, tag);
+        }
     }
     for tag in [0, 5, 127, 128, 255] {
         frame(&mut cases, &random.bytes(NEED), tag);
         frame(&mut cases, &[], tag);
     }
     for length in [0, 1, 2, 64, NEED - 2, NEED - 1, NEED, NEED + 1, 300] {
-        TAGS.map(|tag| frame(&mut cases, &random.bytes(length), tag));
+        for tag in TAGS {
+            frame(&mut cases, &random.bytes(length), tag);
+        }
     }
     for shift in 0..7 {
         let iq: Vec<u8> = (0..NEED)
             .map(|_| ((random.byte() as i8) >> shift) as u8)
             .collect();
-        TAGS.map(|tag| frame(&mut cases, &iq, tag));
+        for tag in TAGS {
+            frame(&mut cases, &iq, tag);
+        }
     }
     bench_features()
         .into_iter()
@@ -49,7 +55,9 @@ fn bench_frames() -> Vec<Vec<u8>> {
         .iter()
         .map(|&(im, re)| [im, re].repeat(MAX_SUBCARRIERS))
         .collect();
-    for entry in [0, 1, 3, 4, 26, 27, 28, 29, 31, 32, 33, 35, 36, 37, 38, 60, 61, 63] {
+    for entry in [
+        0, 1, 3, 4, 26, 27, 28, 29, 31, 32, 33, 35, 36, 37, 38, 60, 61, 63,
+    ] {
         let mut iq = vec![0; NEED];
         iq[2 * entry] = 128;
         iq[2 * entry + 1] = 100;
@@ -91,21 +99,9 @@ fn random_features(random: &mut Random) -> Features {
 }
 
 fn frame(cases: &mut Cases, iq: &[u8], tag: u8) {
-    let signed: Vec<i8> = iq.iter().map(|&b| b as i8).collect();
-    let answer = match layout_of(tag) {
-        None => "features refused 4".into(),
-        Some(layout) => {
-            let frame = CsiFrame {
-                timestamp: Micros(0),
-                rssi: 0,
-                channel: 0,
-                iq: &signed,
-            };
-            match frame.features(layout) {
-                Err(_) => "features refused 5".into(),
-                Ok(f) => format!("features{} normalised{}", text(&f), text(&f.normalised())),
-            }
-        }
+    let answer = match features(iq, tag) {
+        Err(number) => format!("features refused {number}"),
+        Ok(f) => format!("features{} normalised{}", text(&f), text(&f.normalised())),
     };
     cases.add(&[&[0, tag], iq].concat(), &answer);
 }
@@ -117,7 +113,7 @@ fn hand_made(cases: &mut Cases, f: &Features) {
     input.extend(f.variance.to_le_bytes());
     // The Rust takes the first 64 of a larger count, which document 01 refuses.
     let answer = if usize::from(f.count) > MAX_SUBCARRIERS {
-        " refused 7".into()
+        format!(" refused {COUNT}")
     } else {
         text(&f.normalised())
     };

@@ -4,8 +4,10 @@
 //! `frame WANDER TIME STATE`, the state with the numbers that it holds, and of an event ` fall` and its four numbers.
 
 use oracle::Micros;
+use oracle::layout::fall_to_bytes;
 use oracle::radar::fall::{FallConfig, FallDetector};
 use oracle::random::Random;
+use oracle::settings::fall_config;
 
 use super::Cases;
 
@@ -58,15 +60,14 @@ fn thresholds() -> Frames {
     ]
 }
 
-/// Motion for exactly two seconds, then a burst.
-fn burst() -> Frames {
-    vec![(32, 0), (231, 2_000_000), (232, 2_000_000)]
+/// Motion for exactly two seconds, a burst, then these.
+fn after_a_burst(frames: &[(u16, u64)]) -> Frames {
+    [&[(32, 0), (231, 2_000_000), (232, 2_000_000)], frames].concat()
 }
 
 /// Still at exactly ten seconds; the frame that ends the refractory time starts nothing, the next one does.
 fn fall() -> Frames {
-    let mut frames = burst();
-    frames.extend([
+    after_a_burst(&[
         (400, 2_500_000),
         (100, 3_000_000),
         (30, 4_000_000),
@@ -77,54 +78,39 @@ fn fall() -> Frames {
         (500, 73_999_999),
         (500, 74_000_000),
         (500, 74_000_001),
-    ]);
-    frames
+    ])
 }
 
 /// A burst is left after strictly more than three seconds; a settling body gets up.
 fn no_fall() -> Frames {
-    let mut frames = burst();
-    frames.extend([
+    after_a_burst(&[
         (100, 5_000_000),
         (100, 5_000_001),
         (232, 7_000_001),
         (0, 7_000_002),
         (32, 7_000_003),
-    ]);
-    frames
+    ])
 }
 
 /// A clock that went back counts as no time; the refractory time ends no later than the last time.
 fn clock() -> Frames {
-    let mut frames = burst();
-    frames.extend([
+    after_a_burst(&[
         (0, 1_000_000),
         (0, 0),
         (0, u64::MAX - 1),
         (500, u64::MAX - 1),
         (500, u64::MAX),
         (500, 0),
-    ]);
-    frames
+    ])
 }
 
 fn random_config(random: &mut Random) -> FallConfig {
-    let mut time = || {
-        Micros(match random.below(8) {
-            0 => random.pick(&[0, u64::MAX]),
-            _ => random.below(6),
-        })
-    };
-    FallConfig {
-        min_active: time(),
-        quiet_grace: time(),
-        settle: time(),
-        still_for: time(),
-        refractory: time(),
-        active_permille: random.between(10, 40) as u16,
-        burst_permille: random.between(30, 60) as u16,
-        still_permille: random.between(10, 40) as u16,
-    }
+    let times = [(); 5].map(|()| match random.below(8) {
+        0 => random.pick(&[0, u64::MAX]),
+        _ => random.below(6),
+    });
+    let permille = [(10, 40), (30, 60), (10, 40)].map(|(lo, hi)| random.between(lo, hi) as u16);
+    fall_config(permille, times.map(Micros))
 }
 
 /// Wanders about the thresholds, on a clock that mostly goes on.
@@ -144,7 +130,7 @@ fn random_frames(random: &mut Random, c: &FallConfig) -> Frames {
 }
 
 fn sequence(cases: &mut Cases, config: FallConfig, frames: &Frames) {
-    cases.add(&settings(&config), "new");
+    cases.add(&fall_to_bytes(&config), "new");
     let mut detector = FallDetector::new(config);
     for &(wander, now) in frames {
         let event = detector.push(wander, Micros(now));
@@ -157,20 +143,6 @@ fn sequence(cases: &mut Cases, config: FallConfig, frames: &Frames) {
         frame.extend(now.to_le_bytes());
         cases.add(&frame, &format!("{line}\n{line}"));
     }
-}
-
-fn settings(c: &FallConfig) -> Vec<u8> {
-    let thresholds = [c.active_permille, c.burst_permille, c.still_permille];
-    let durations = [
-        c.min_active,
-        c.quiet_grace,
-        c.settle,
-        c.still_for,
-        c.refractory,
-    ];
-    let mut bytes: Vec<u8> = thresholds.iter().flat_map(|p| p.to_le_bytes()).collect();
-    bytes.extend(durations.iter().flat_map(|t| t.0.to_le_bytes()));
-    bytes
 }
 
 /// The private state, read from how the Rust prints it: its name and its numbers.

@@ -2,7 +2,8 @@
 //! (four), low byte first. Its line is `mean ANSWER distance ANSWER calibrated ANSWER`; an answer is
 //! a number, the next sum and frames, or `refused NUMBER`.
 
-use oracle::radar::csi::{Features, MAX_SUBCARRIERS};
+use oracle::measured::of_variance;
+use oracle::radar::csi::MAX_SUBCARRIERS;
 use oracle::radar::fingerprint::Baseline;
 use oracle::random::Random;
 
@@ -92,15 +93,6 @@ fn input(sum: u64, frames: u32, count: u8, variance: u32) -> Vec<u8> {
     bytes
 }
 
-fn features(count: u8, variance: u32) -> Features {
-    Features {
-        amplitude: [0; MAX_SUBCARRIERS],
-        count,
-        mean: 0,
-        variance,
-    }
-}
-
 impl Fed {
     fn new() -> Self {
         Fed {
@@ -110,7 +102,7 @@ impl Fed {
     }
 
     fn calibrate(&mut self, count: u8, variance: u32) {
-        self.rust.calibrate(&features(count, variance));
+        self.rust.calibrate(&of_variance(count, variance));
         if count != 0 {
             self.sum += u64::from(variance);
         }
@@ -123,7 +115,7 @@ impl Fed {
         let answer = if usize::from(count) > MAX_SUBCARRIERS {
             "distance refused 7 calibrated refused 7".into()
         } else {
-            let distance = self.rust.distance(&features(count, variance));
+            let distance = self.rust.distance(&of_variance(count, variance));
             if count != 0 && self.rust.frames() == MAX_FRAMES {
                 format!("distance {distance} calibrated refused 8")
             } else {

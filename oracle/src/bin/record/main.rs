@@ -3,6 +3,7 @@
 
 mod csi;
 mod csi_stream;
+mod detector;
 mod fall;
 mod fingerprint;
 mod phase;

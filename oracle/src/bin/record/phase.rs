@@ -4,18 +4,14 @@
 //! - 1, then a layout tag and I/Q bytes: `phases COUNT` and the 64 phases, or `refused NUMBER`;
 //! - 2, then a count and 64 angles (low byte first): the same. The Rust gets the I/Q bytes that have these angles, with a layout of so many entries.
 
-use oracle::Micros;
-use oracle::radar::csi::{CsiFrame, Layout, MAX_SUBCARRIERS};
-use oracle::radar::csi_stream::{MAX_IQ, layout_of};
-use oracle::radar::phase::atan2_brad;
+use oracle::measured::{frame, phases, put_angles, signed, whole};
+use oracle::radar::csi::MAX_SUBCARRIERS;
+use oracle::radar::csi_stream::MAX_IQ;
+use oracle::radar::phase::{Phases, atan2_brad};
 use oracle::random::Random;
+use oracle::refusals::COUNT;
 
 use super::Cases;
-
-/// Document 01's numbers for the refusals met here.
-const TAG: u8 = 4;
-const FEW_BYTES: u8 = 5;
-const COUNT: u8 = 7;
 
 pub fn cases() -> Cases {
     let random = &mut Random::new(1);
@@ -59,29 +55,20 @@ fn samples(cases: &mut Cases, random: &mut Random) {
 }
 
 fn add_sample(cases: &mut Cases, tag: u8, iq: &[u8]) {
-    let answer = match layout_of(tag) {
-        Some(layout) => phases(iq, layout, FEW_BYTES),
-        None => format!("refused {TAG}"),
-    };
-    cases.add(&[&[1, tag], iq].concat(), &answer);
+    cases.add(&[&[1, tag], iq].concat(), &line(phases(iq, tag)));
 }
 
 /// Every count to 66, and the largest. What stands behind the angles in use is not 0.
 fn hand_made(cases: &mut Cases, random: &mut Random) {
     for count in (0..=66).chain([128, 255]) {
         let n = usize::from(count);
-        let layout = Layout {
-            valid: Box::leak(Box::new([0..n])),
-            entries: n,
-        };
         let iq = bytes(random, u64::from(count) % 5, 2 * n);
         let mut angle = [-1; MAX_SUBCARRIERS];
-        for (a, p) in angle.iter_mut().zip(iq.chunks_exact(2)) {
-            *a = atan2_brad(i32::from(p[0] as i8), i32::from(p[1] as i8));
-        }
+        put_angles(&mut angle, &iq);
         let mut input = vec![2, count];
         input.extend(angle.iter().flat_map(|a: &i16| a.to_le_bytes()));
-        cases.add(&input, &phases(&iq, &layout, COUNT));
+        let phases = frame(signed(&iq)).phases(&whole(n));
+        cases.add(&input, &line(phases.map_err(|_| COUNT)));
     }
 }
 
@@ -101,19 +88,12 @@ fn bytes(random: &mut Random, sort: u64, n: usize) -> Vec<u8> {
     }
 }
 
-fn phases(iq: &[u8], layout: &Layout, number: u8) -> String {
-    let iq: Vec<i8> = iq.iter().map(|&b| b as i8).collect();
-    let frame = CsiFrame {
-        timestamp: Micros(0),
-        rssi: 0,
-        channel: 0,
-        iq: &iq,
-    };
-    match frame.phases(layout) {
+fn line(phases: Result<Phases, u8>) -> String {
+    match phases {
         Ok(p) => {
             let each = p.phase.map(|a| a.to_string()).join(" ");
             format!("phases {} {each}", p.count)
         }
-        Err(_) => format!("refused {number}"),
+        Err(number) => format!("refused {number}"),
     }
 }

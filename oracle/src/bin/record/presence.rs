@@ -1,270 +1,33 @@
-//! A case is a run of the presence detector. Its bytes: the window (2), the memory's length (4), the
-//! thresholds (2, 2) and the hold (8), low bytes first; then frames: how often (2), count (1), time
-//! (8), which grows by 1 from one to the next, and the amplitudes (2 each), none where the count is
-//! above 64. In place of a count, 255 is a reset and 254 damages a carried sum.
-//!
-//! Its line: `new REFUSAL`, then for each frame ` TAG MOTION WANDER` of its last push, or
-//! ` refused NUMBER`, and for each reset ` reset REFUSAL`. The Rust refuses nothing: the numbers are
-//! document 01's.
+//! A case is a run of the presence detector, as `detector.rs` has it: thresholds of 2 bytes, and the
+//! amplitudes.
 
-use oracle::detectors;
-use oracle::radar::csi::{Config, Features};
-use oracle::random::Random;
-use oracle::Micros;
+use oracle::kinds::{Kind, LONGEST, Presence};
 
 use super::Cases;
-
-const COLUMNS: usize = 64;
-const LONGEST: usize = 8192;
-const RESET: u8 = 255;
-const DAMAGE: u8 = 254;
-
-#[derive(Clone)]
-enum Item {
-    Frame {
-        times: u16,
-        count: u8,
-        time: u64,
-        amplitude: Vec<u16>,
-    },
-    Reset,
-    Damage,
-}
-
-fn frame(count: u8, time: u64, amplitude: Vec<u16>) -> Item {
-    Item::Frame {
-        times: 1,
-        count,
-        time,
-        amplitude,
-    }
-}
-
-struct Run {
-    w: usize,
-    memory: usize,
-    config: Config,
-    items: Vec<Item>,
-}
-
-impl Run {
-    fn new(w: usize, config: Config, items: Vec<Item>) -> Run {
-        Run {
-            w,
-            memory: 2 * w * COLUMNS,
-            config,
-            items,
-        }
-    }
-
-    fn bytes(&self) -> Vec<u8> {
-        let mut bytes = Vec::new();
-        bytes.extend((self.w as u16).to_le_bytes());
-        bytes.extend((self.memory as u32).to_le_bytes());
-        bytes.extend(self.config.on_permille.to_le_bytes());
-        bytes.extend(self.config.off_permille.to_le_bytes());
-        bytes.extend(self.config.hold.0.to_le_bytes());
-        for item in &self.items {
-            let (times, count, time, amplitude) = match item {
-                Item::Frame {
-                    times,
-                    count,
-                    time,
-                    amplitude,
-                } => (*times, *count, *time, &amplitude[..]),
-                Item::Reset => (1, RESET, 0, &[][..]),
-                Item::Damage => (1, DAMAGE, 0, &[][..]),
-            };
-            bytes.extend(times.to_le_bytes());
-            bytes.push(count);
-            bytes.extend(time.to_le_bytes());
-            bytes.extend(amplitude.iter().flat_map(|a| a.to_le_bytes()));
-        }
-        bytes
-    }
-
-    /// Document 01's number for a call, `damaged` or not.
-    fn refusal(&self, damaged: bool, count: u8) -> u8 {
-        if !(1..=LONGEST).contains(&self.w) {
-            1
-        } else if self.memory != 2 * self.w * COLUMNS || damaged {
-            2
-        } else if usize::from(count) > COLUMNS {
-            7
-        } else {
-            0
-        }
-    }
-
-    fn line(&self) -> String {
-        let fits = self.refusal(false, 0) == 0;
-        let mut rust = fits.then(|| detectors::presence(self.w, self.config));
-        let mut line = format!("new {}", self.refusal(false, 0));
-        let mut damaged = false;
-        for item in &self.items {
-            match item {
-                Item::Damage => damaged = true,
-                Item::Reset => {
-                    let number = self.refusal(damaged, 0);
-                    if number == 0 {
-                        rust.as_mut().unwrap().reset();
-                    }
-                    line += &format!(" reset {number}");
-                }
-                Item::Frame {
-                    times,
-                    count,
-                    time,
-                    amplitude,
-                } => match self.refusal(damaged, *count) {
-                    0 => {
-                        let rust = rust.as_mut().unwrap();
-                        let mut features = Features {
-                            amplitude: [0; COLUMNS],
-                            count: *count,
-                            mean: 0,
-                            variance: 0,
-                        };
-                        features.amplitude[..amplitude.len()].copy_from_slice(amplitude);
-                        let push = |i| rust.push(&features, Micros(time.wrapping_add(i)));
-                        let v = (0..u64::from(*times)).map(push).last().unwrap();
-                        line += &format!(" {} {} {}", v.tag(), v.motion(), rust.wander());
-                    }
-                    number => line += &format!(" refused {number}"),
-                },
-            }
-        }
-        line
-    }
-}
-
-const NORMALISED: Config = Config {
-    on_permille: 32,
-    off_permille: 23,
-    hold: Micros(3_000_000),
-};
+use super::detector::{self, Choices, Item, Run};
 
 /// The bench cases of document 01: 1000 and 1010; half 0, half 65,535.
-fn bench() -> Vec<Run> {
-    let many = |a: u16, times: u16| Item::Frame {
-        times,
-        count: 1,
-        time: 7,
-        amplitude: vec![a],
-    };
+fn bench() -> Vec<Run<Presence>> {
     let half = LONGEST as u16 / 2;
+    let two = vec![Item::single(1000, 1), Item::single(1010, 1)];
+    let halves = vec![
+        Item::single(0, half),
+        Item::single(65_535, half - 1),
+        Item::single(65_535, 1),
+    ];
     vec![
-        Run::new(2, NORMALISED, vec![many(1000, 1), many(1010, 1)]),
-        Run::new(
-            LONGEST,
-            NORMALISED,
-            vec![many(0, half), many(65_535, half - 1), many(65_535, 1)],
-        ),
+        Run::new(2, Presence::DEFAULT, two),
+        Run::new(LONGEST, Presence::DEFAULT, halves),
     ]
 }
 
-/// Window sizes and memory lengths that do not fit, with a count that does not either.
-fn refused() -> Vec<Run> {
-    let items = || {
-        vec![
-            frame(65, 0, vec![]),
-            frame(3, 1, vec![1, 2, 3]),
-            Item::Reset,
-            frame(0, 2, vec![]),
-        ]
-    };
-    let sizes = [
-        (0, 0),
-        (0, 128),
-        (LONGEST + 1, 1 << 20),
-        (65_535, 0),
-        (1, 0),
-        (1, 127),
-        (1, 129),
-        (5, 0),
-        (5, 639),
-        (5, 641),
-        (50, 6272),
-        (LONGEST, (1 << 20) - 1),
-        (1, 128),
-        (5, 640),
-    ];
-    let run = |(w, memory)| Run {
-        w,
-        memory,
-        config: NORMALISED,
-        items: items(),
-    };
-    sizes.map(run).into()
-}
-
-/// Thresholds, some equal, crossed or at an end of their range.
-fn config(random: &mut Random) -> Config {
-    let on_permille = random.pick(&[0, 1, 10, 32, 42, 100, 65_535]);
-    let off_permille = match random.below(3) {
-        0 => on_permille,
-        _ => random.pick(&[0, 5, 23, 32, 80, 65_535]),
-    };
-    let hold = Micros(random.pick(&[0, 3, 40, 1000, u64::MAX]));
-    Config {
-        on_permille,
-        off_permille,
-        hold,
-    }
-}
-
-/// A room whose noise, count and clock change now and then.
-fn room(random: &mut Random, w: usize, columns: &[u8], frames: usize) -> Run {
-    let config = config(random);
-    let (mut count, mut time) = (random.pick(columns), random.below(1000));
-    let mut noise = random.pick(&[1, 8, 60, 500, 65_536]);
-    let level = random.pick(&[0, 40, 1000, 64_000]);
-    let mut items = Vec::new();
-    for i in 0..frames {
-        if random.one_in(12) {
-            count = random.pick(columns);
-        }
-        if random.one_in(7) {
-            noise = random.pick(&[1, 8, 60, 500, 65_536]);
-        }
-        time = match random.below(12) {
-            0 => random.any_size(),
-            1 => time.wrapping_sub(random.below(60)),
-            _ => time.wrapping_add(random.below(30)),
-        };
-        match random.below(40) {
-            0 => items.push(Item::Reset),
-            1 => items.push(frame(0, time, vec![])),
-            2 => items.push(frame(random.pick(&[65, 253]), time, vec![])),
-            _ => {}
-        }
-        let amplitude = |_| (level + random.below(noise)).min(65_535) as u16;
-        let amplitude = (0..count).map(amplitude).collect();
-        items.push(frame(count, time, amplitude));
-        if i + 3 == frames && random.one_in(3) {
-            items.push(Item::Damage);
-        }
-    }
-    Run::new(w, config, items)
-}
-
 pub fn cases() -> Cases {
-    let random = &mut Random::new(1);
-    let mut runs = bench();
-    runs.extend(refused());
-    for w in [1, 2, 3, 5] {
-        for _ in 0..8 {
-            runs.push(room(random, w, &[1, 2, 3, 8], 40));
-        }
-        runs.push(room(random, w, &[52, 56, 64], 24));
-    }
-    for _ in 0..3 {
-        runs.push(room(random, 50, &[1, 2], 160));
-    }
-    runs.push(room(random, 50, &[56], 110));
-    let mut cases = Cases::default();
-    for run in runs {
-        cases.add(&run.bytes(), &run.line());
-    }
-    cases
+    let choices = Choices::<Presence> {
+        on: &[0, 1, 10, 32, 42, 100, 65_535],
+        off: &[0, 5, 23, 32, 80, 65_535],
+        noises: &[1, 8, 60, 500, 65_536],
+        levels: &[0, 40, 1000, 64_000],
+        entry: |level, noise| (u64::from(level) + noise).min(65_535) as u16,
+    };
+    detector::cases(bench(), &choices)
 }

@@ -9,7 +9,8 @@ use std::f64::consts::TAU;
 
 use oracle::Micros;
 use oracle::detectors::{self, Rhythm};
-use oracle::radar::csi::Features;
+use oracle::frames::Frame;
+use oracle::layout::rhythm_to_bytes;
 use oracle::radar::vitals::{Band, VitalsConfig};
 use oracle::random::Random;
 
@@ -100,18 +101,8 @@ fn refused(cases: &mut Cases) {
     cases.add(&frame, "refused 7");
 }
 
-fn settings(n: u16, c: VitalsConfig) -> Vec<u8> {
-    let mut bytes = Vec::new();
-    for x in [n, c.decim] {
-        bytes.extend(x.to_le_bytes());
-    }
-    for x in [c.rate_hz, c.band.lo_mhz, c.band.hi_mhz] {
-        bytes.extend(x.to_le_bytes());
-    }
-    for x in [c.update_every, c.accept_permille, c.highpass] {
-        bytes.extend(x.to_le_bytes());
-    }
-    bytes
+fn settings(n: u16, config: VitalsConfig) -> Vec<u8> {
+    [&n.to_le_bytes(), &rhythm_to_bytes(&config)[..]].concat()
 }
 
 /// Bands about the first lags, wide, narrow and inverted.
@@ -184,13 +175,7 @@ impl<'a> Run<'a> {
     }
 
     fn frame(&mut self, time: u32, amplitudes: &[u16]) {
-        let mut features = Features {
-            amplitude: [0; 64],
-            count: amplitudes.len() as u8,
-            mean: 0,
-            variance: 0,
-        };
-        features.amplitude[..amplitudes.len()].copy_from_slice(amplitudes);
+        let features = Frame::of(amplitudes, 0).features();
         let mut input = time.to_le_bytes().to_vec();
         input.push(features.count);
         input.extend(amplitudes.iter().flat_map(|a| a.to_le_bytes()));

@@ -17,12 +17,11 @@ use oracle::radar::fingerprint::Baseline;
 use oracle::radar::phase::PhaseDetector;
 use oracle::radar::vitals::VitalsEstimator;
 use oracle::random::Random;
-use oracle::room::{Answer, Watched};
+use oracle::room::{Answer, RECORD_LEN, Watched};
 use oracle::settings::Settings;
 use oracle::streams::steady;
 use oracle::timer::{Ratio, ratio};
 
-const RECORD_LEN: usize = 142;
 const WINDOW: usize = 50;
 const BLOCKS: usize = 128;
 
