@@ -1,13 +1,13 @@
 -- What the tests of the code say of the answers that `specs/` defines. Assumes nothing.
-use mathlib.Core.Path.{_≡_, refl, sym, ap, _∙_}
+use mathlib.Core.Path.{_≡_, sym, _∙_}
 use mathlib.Core.Bool.{Bool, true, false, cond, not}
 use mathlib.Core.List.{List, map}
 use Prim.Native.Nat.{ℕ, _≤_, _<_}
-use native.Mathlib.Omega.{arith}
-use borrow.Author.Tests.{lt-ltb, le-ltb, ltb-false, eq-eqb, ne-eqb}
+use borrow.Author.Tests.{lt-ltb, le-ltb, ltb-false, eq-eqb, ne-eqb, not-false}
 use lib.Dec.{ltb}
 use lib.ListN.{length}
 use Rattle.num.specs.Sum.{total}
+use Rattle.num.proofs.Cond.{zero-second}
 use Rattle.csi.specs.Features.{describe, scale, used, refused, accepted, featuresOf, featuresAnswer, normalisedAnswer, normalisedOf}
 use Rattle.csi.specs.Layout.{maxSubcarriers, known, layoutOf, needOf, frameRefusal}
 use Rattle.csi.specs.declared.Features.{Features}
@@ -28,12 +28,10 @@ module _ (len tag : ℕ) where
   -- and back
   pub served : frameRefusal len tag ≡ 0 → (known tag ≡ true) × (needOf (layoutOf tag) ≤ len)
   unfolding frameRefusal
-  served z = go (known tag) (ltb len (needOf (layoutOf tag))) refl z
-    where
-      go : (k b : Bool) → ltb len (needOf (layoutOf tag)) ≡ b → _≡_ {A = ℕ} (cond (not k) 4 (cond b 5 0)) 0 → (k ≡ true) × (needOf (layoutOf tag) ≤ len)
-      go true false e z = (refl, ltb-false len (needOf (layoutOf tag)) e)
-      go true true e z = absurd (omega arith)
-      go false b e z = absurd (omega arith)
+  served z =
+      let short : Bool = ltb len (needOf (layoutOf tag)) in
+      let h = zero-second (not (known tag)) 3 (cond short 5 0) z in
+      (not-false (known tag) (h .0), ltb-false len (needOf (layoutOf tag)) (zero-second short 4 0 (h .1) .0))
 
 module _ (iq : List ℕ) (tag : ℕ) where
   pub no-features : (number : ℕ) → number ≡ frameRefusal (length iq) tag → (number ≡ 0 → ⊥) → refused number ≡ featuresAnswer iq tag

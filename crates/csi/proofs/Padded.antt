@@ -1,8 +1,8 @@
 -- An array whose first amplitudes are xs, with 0 behind them, has the features of xs. Assumes nothing.
-use mathlib.Core.Path.{_≡_, refl, sym, ap, _∙_}
+use mathlib.Core.Path.{_≡_, refl}
 use mathlib.Core.List.{List, _++_}
 use Prim.Native.Nat.{ℕ, _-_}
-use lib.ListN.{length, take, replicate}
+use lib.ListN.{length, replicate}
 use lib.Seq.{take-at}
 use Rattle.csi.specs.Features.{describe, describedAs}
 use Rattle.csi.specs.Layout.{maxSubcarriers}

@@ -1,7 +1,6 @@
 -- The shape of features: how many amplitudes are in use, and how long the array is. Features that a sample gave are refused by no call.
 -- Assumes nothing.
-use mathlib.Core.Path.{_≡_, refl, sym, ap, _∙_}
-use mathlib.Core.Bool.{Bool, true, false, cond}
+use mathlib.Core.Path.{_≡_, refl, _∙_}
 use mathlib.Core.List.{List, map}
 use Prim.Native.Nat.{ℕ, _≤_}
 use native.Mathlib.Omega.{arith}
@@ -9,6 +8,7 @@ use lib.Dec.{eqb}
 use lib.ListN.{length, length-append, length-map, length-replicate}
 use lib.Seq.{length-take-le}
 use Rattle.num.specs.Sum.{total}
+use Rattle.num.proofs.Cond.{cond-holds}
 use Rattle.csi.specs.Features.{amplitudeAt, describe, featuresOf, used, scale, normalisedOf}
 use Rattle.csi.specs.Layout.{maxSubcarriers, layoutOf, entriesOf, frameRefusal}
 use Rattle.csi.specs.declared.Features.{Features}
@@ -50,16 +50,12 @@ module _ (f : Features) (few : f .count ≤ maxSubcarriers) (array : length (f .
 
   pub normalised-count : normalisedOf f .count ≡ f .count
   unfolding normalisedOf
-  normalised-count = go (eqb (total (used f)) 0)
-    where
-      go : (b : Bool) → cond b f divided .count ≡ f .count
-      go true = refl
-      go false = describe-count (map (scale (f .count) (total (used f))) (used f)) ∙ as-many
+  normalised-count =
+      cond-holds (λ (g : Features). g .count ≡ f .count) (eqb (total (used f)) 0) f divided
+      (λ e. refl) (λ e. describe-count (map (scale (f .count) (total (used f))) (used f)) ∙ as-many)
 
   pub normalised-long : length (normalisedOf f .amplitude) ≡ maxSubcarriers
   unfolding normalisedOf
-  normalised-long = go (eqb (total (used f)) 0)
-    where
-      go : (b : Bool) → length (cond b f divided .amplitude) ≡ maxSubcarriers
-      go true = array
-      go false = describe-long (map (scale (f .count) (total (used f))) (used f)) (omega (arith, as-many))
+  normalised-long =
+      cond-holds (λ (g : Features). length (g .amplitude) ≡ maxSubcarriers) (eqb (total (used f)) 0) f divided
+      (λ e. array) (λ e. describe-long (map (scale (f .count) (total (used f))) (used f)) (omega (arith, as-many)))

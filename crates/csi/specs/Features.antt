@@ -1,7 +1,7 @@
 -- The amplitudes of a sample, their mean and variance, and the same divided by their mean (document 01, "Amplitudes and baseline";
 -- csi.rs, `CsiFrame::features` and `Features::normalised`). Assumes nothing.
 use mathlib.Core.Bool.{cond}
-use mathlib.Core.List.{List, [], _++_, map}
+use mathlib.Core.List.{List, _++_, map}
 use Prim.Native.Nat.{ℕ, _+_, _-_, _*_, _/_, min}
 use lib.Dec.{ltb, eqb}
 use lib.IntN.{natAbs}

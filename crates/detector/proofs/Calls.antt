@@ -1,22 +1,22 @@
 -- The public calls, for every kind of detector: the tests tell of the statements, and each way through a call meets its contract. Assumes nothing.
 use mathlib.Core.Path.{_≡_, refl, sym, ap, _∙_}
-use mathlib.Core.Bool.{Bool, true, false, cond, _&&_}
-use mathlib.Core.List.{List, []}
-use Prim.Native.Nat.{ℕ, _+_, _*_, _≤_, _<_}
+use mathlib.Core.Bool.{Bool, true, false, _&&_}
+use mathlib.Core.List.{List}
+use Prim.Native.Nat.{ℕ, _*_, _≤_, _<_}
 use native.Mathlib.Omega.{arith}
-use lib.Dec.{leb, ltb, eqb}
-use lib.ListN.{length, replicate, length-replicate}
-use borrow.Author.Tests.{lt-ltb, le-leb, lt-leb, eq-eqb, ne-eqb, leb-true}
+use lib.Dec.{leb, ltb}
+use lib.ListN.{length, replicate}
+use borrow.Author.Tests.{lt-ltb, le-leb, lt-leb, eq-eqb, ne-eqb}
 use Rattle.num.specs.Tests.{Tells}
 use Rattle.num.proofs.Tests.{tells-iff, tells-both, tells-le, tells-lt}
-use Rattle.window.specs.Window.{maxRows, ringRows, windowOf}
-use Rattle.window.specs.Sums.{Summing, Ring, isRing, totalBy}
+use Rattle.window.specs.Window.{maxRows, ringRows}
+use Rattle.window.specs.Sums.{Ring, isRing, totalBy}
 use Rattle.window.proofs.Check.{ring-told}
 use Rattle.window.proofs.Ring.{ring-zero}
 use Rattle.window.proofs.View.{window-none}
 use Rattle.detector.specs.State.{Placed, isPlaced, newState, resetState}
-use Rattle.detector.specs.Detector.{Kind, Valid, isValid, Pushes, detectorOf, newDetector, restart}
-use Rattle.detector.specs.Calls.{isWindow, newRefusal, resetRefusal, pushRefusal, zeroSums, Clears, Begins, Resets, Keeps, Calls}
+use Rattle.detector.specs.Detector.{Kind, Valid, isValid, Pushes, detectorOf, newDetector}
+use Rattle.detector.specs.Calls.{isWindow, Clears, Begins, Resets, Keeps, Calls}
 use Rattle.detector.specs.declared.Limits.{Limits}
 use Rattle.detector.specs.declared.State.{State}
 use Rattle.detector.specs.declared.Verdict.{Verdict}
@@ -80,9 +80,9 @@ module _ (K : Kind) (w c : ℕ) (bytes : List ℕ) where
   new-length e n =
       record { number = rw (e, ne-eqb (length bytes) (2 * (w * c)) n); state = refl; refused = λ k. (refl, refl, refl); begun = λ z. absurd (omega arith) }
 
-  pub new-begun : isWindow w ≡ true → length bytes ≡ 2 * (w * c) → (bytes′ : List ℕ) (fs gs : List (K .sums .Number)) → Clears K w c bytes bytes′ fs gs → Begins K w c bytes 0 newState bytes′ fs gs
-  new-begun e whole bytes′ fs gs clears =
-      record { number = rw (e, eq-eqb (length bytes) (2 * (w * c)) whole); state = refl; refused = λ n. absurd (n refl); begun = λ z. clears }
+  pub new-begun : isWindow w ≡ true → length bytes ≡ 2 * (w * c) → {s : State} → s ≡ newState → {bytes′ : List ℕ} {fs gs : List (K .sums .Number)} → Clears K w c bytes bytes′ fs gs → Begins K w c bytes 0 s bytes′ fs gs
+  new-begun e whole new clears =
+      record { number = rw (e, eq-eqb (length bytes) (2 * (w * c)) whole); state = new; refused = λ n. absurd (n refl); begun = λ z. clears }
 
   -- cleared memory, with sums a and b that are those of w zeros
   pub cleared : 1 ≤ w → w ≤ maxRows → length bytes ≡ 2 * (w * c) → (a b : K .sums .Number)

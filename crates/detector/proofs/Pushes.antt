@@ -2,24 +2,24 @@
 -- wander. Assumes nothing.
 use mathlib.Core.Path.{_≡_, refl, sym, ap, _∙_}
 use mathlib.Core.Bool.{Bool, true, false, not, cond}
-use mathlib.Core.List.{List, [], _∷_}
-use Prim.Native.Nat.{ℕ, zero, suc, _+_, _-_, _*_, _≤_, _<_, min}
+use mathlib.Core.List.{List, []}
+use Prim.Native.Nat.{ℕ, _+_, _≤_, _<_}
 use native.Mathlib.Nat.{mod-lt}
 use native.Mathlib.Decide.{ℕ-discrete, decLt}
 use native.Mathlib.Omega.{arith}
-use lib.ListN.{length, take, drop, getD, set, length-set}
+use lib.ListN.{length, take, drop, getD, set}
 use lib.Seq.{length-take-le, take-at}
 use lib.Dec.{eqb, ltb}
 use borrow.Author.Tests.{lt-ltb, le-ltb, eq-eqb, ne-eqb}
-use Rattle.window.specs.Window.{ringRows, pushRow, windowOf, overwrite, nextSlot, filledAfter, width}
-use Rattle.window.specs.Sums.{Summing, Ring}
+use Rattle.window.specs.Window.{maxRows, ringRows, pushRow, windowOf, overwrite, nextSlot, filledAfter, width}
+use Rattle.window.specs.Sums.{Ring}
 use Rattle.window.specs.Words.{words}
 use Rattle.window.proofs.Rows.{length-cut}
 use Rattle.window.proofs.View.{Long, window-push, window-none, window-width, length-window}
 use Rattle.window.proofs.Mean.{ring-long}
 use Rattle.detector.specs.Decision.{presentAfter, lastAfter, verdictAt}
-use Rattle.detector.specs.State.{Placed, keptState, restartedState, countChanged, startState, nextState, judgedState, settledState, stateAfter}
-use Rattle.detector.specs.Detector.{Detector, Kind, detectorOf, startFor, restart, changed, withFrame, judged, verdictOf, Valid, Pushes, pushFrame, rowsAfter}
+use Rattle.detector.specs.State.{Placed, keptState, restartedState, countChanged, startState, nextState, judgedState, settledState}
+use Rattle.detector.specs.Detector.{Detector, Kind, detectorOf, startFor, restart, changed, withFrame, judged, verdictOf, Valid, Pushes, pushFrame}
 use Rattle.detector.specs.declared.Limits.{Limits}
 use Rattle.detector.specs.declared.State.{State}
 use Rattle.detector.specs.declared.Verdict.{Verdict}
@@ -77,6 +77,28 @@ started w c top n s p narrow =
     (record { placed = record { slot = omega (arith, p .slot); most = omega arith; narrow = narrow; calm = omega arith }; count-is = refl })
     (record { placed = record { slot = p .slot; most = p .most; narrow = narrow; calm = p .calm }; count-is = refl })
 
+-- what the steps of a push of n entries ask of the sizes, and of the state that it starts from
+pub record Begun (w c n : ℕ) (start : State) : Type 0 where
+  pub some-rows : 1 ≤ w
+  pub few-rows : w ≤ maxRows
+  pub some-entries : 1 ≤ n
+  pub few-entries : n ≤ c
+  pub slot : start .next < w
+  pub most : start .filled ≤ w
+
+pub begun : {K : Kind} {w c n : ℕ} {s start : State} {bytes : List ℕ} {fs gs : List (K .sums .Number)} → Valid K w c s bytes fs gs → n ≤ c → (n ≡ 0 → ⊥) → start ≡ startState s n → Begun w c n start
+begun {K} {w} {c} {n} {s} valid narrow some e =
+    let from : Started w c (K .top) n (startState s n) = started w c (K .top) n s (valid .placed) narrow in
+    rw e
+    (record {
+      some-rows = omega (arith, valid .placed .slot);
+      few-rows = valid .ring .small;
+      some-entries = omega (arith, some);
+      few-entries = narrow;
+      slot = from .placed .slot;
+      most = from .placed .most;
+    })
+
 -- a frame's entries at the front of a row
 pub frame-at : (row new : List ℕ) (n : ℕ) → n ≤ length new → take n (overwrite row new n) ≡ take n new
 frame-at row new n h = take-at (take n new) (drop n row) n (length-take-le n new h)
@@ -130,7 +152,7 @@ module _ (K : Kind) (lim : Limits) (w c n time : ℕ) (s : State) (bytes new : L
         answer = v ∙ verdict-law w (K .unit) (ringRows w c bytes) s (length-cut w c (words bytes)) (valid .placed .most);
       }
 
-  -- any other, from what `replace_row` says of the memory and what the wander of the carried sums is
+  -- a row is replaced, and the wander of the carried sums is that of the window
   module _ (narrow : n ≤ c) (some : n ≡ 0 → ⊥) (new-long : length new ≡ c)
       (bytes′ : List ℕ) (fs′ gs′ : List (K .sums .Number)) (ring : Ring (K .sums) w c bytes′ fs′ gs′)
       (written : ringRows w c bytes′ ≡ set (ringRows w c bytes) (startState s n .next) (overwrite (getD (ringRows w c bytes) (startState s n .next) []) new n))
@@ -177,10 +199,10 @@ module _ (K : Kind) (lim : Limits) (w c n time : ℕ) (s : State) (bytes new : L
           let not-empty : eqb (length frame) 0 ≡ false = ne-eqb (length frame) 0 (λ e. some (sym frame-long ∙ e)) in
           settle ∙ ap (judged (K .wanderOf) lim w time) (written-frame ∙ same) ∙ sym (ap (λ (b : Bool). cond b (detectorOf s rows) body) not-empty)
 
-      pub push-some : (s′ : State) (verdict : Verdict) → s′ ≡ settledState lim w time m (nextState w (startState s n)) → verdict ≡ verdictAt w (K .unit) (s′ .filled) (s′ .present) (s′ .wander)
+      settled : (s′ : State) (verdict : Verdict) → s′ ≡ settledState lim w time m (nextState w (startState s n)) → verdict ≡ verdictAt w (K .unit) (s′ .filled) (s′ .present) (s′ .wander)
           → Pushes K lim w c s bytes new n time s′ bytes′ fs′ gs′ verdict
       unfolding after
-      push-some s′ verdict e v =
+      settled s′ verdict e v =
           let p : Placed w c (K .top) s′ = rw e placed-after in
           record {
             valid = record { ring = ring; placed = p };
@@ -189,3 +211,13 @@ module _ (K : Kind) (lim : Limits) (w c n time : ℕ) (s : State) (bytes new : L
             detector = rw e detector-after;
             answer = v ∙ verdict-law w (K .unit) (ringRows w c bytes′) s′ (length-cut w c (words bytes′)) (p .most);
           }
+
+  -- any other, by what each step of it ensures: the limits, the state at the start, the row replaced, the next state, the wander, the settled state
+  pub push-some : n ≤ c → (n ≡ 0 → ⊥) → length new ≡ c → {l : Limits} → l ≡ lim → {start : State} → start ≡ startState s n
+      → {bytes′ : List ℕ} {fs′ gs′ : List (K .sums .Number)} → Ring (K .sums) w c bytes′ fs′ gs′
+      → ringRows w c bytes′ ≡ set (ringRows w c bytes) (start .next) (overwrite (getD (ringRows w c bytes) (start .next) []) new n)
+      → {fed : State} → fed ≡ nextState w start → (m : ℕ) → m ≤ K .top → ((next : ℕ) → m ≡ K .wanderOf (windowOf next w n (ringRows w c bytes′)))
+      → {s′ : State} → s′ ≡ settledState l w time m fed → {verdict : Verdict} → verdict ≡ verdictAt w (K .unit) (s′ .filled) (s′ .present) (s′ .wander)
+      → Pushes K lim w c s bytes new n time s′ bytes′ fs′ gs′ verdict
+  push-some narrow some new-long l-is start-is {bytes′} {fs′} {gs′} ring written fed-is m m-le m-is {s′} s-is {verdict} v =
+      settled narrow some new-long bytes′ fs′ gs′ ring (rw start-is at written) m m-le m-is s′ verdict (rw (l-is, fed-is, start-is) at s-is) v

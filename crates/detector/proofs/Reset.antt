@@ -1,16 +1,16 @@
 -- After a reset or a restart every later verdict is a new detector's: the time of the last motion, which is kept, shows in no answer while there
 -- is no presence. And how a window grows. Assumes nothing.
-use mathlib.Core.Path.{_≡_, refl, sym, ap, _∙_, subst}
-use mathlib.Core.Bool.{Bool, true, false, not, cond}
+use mathlib.Core.Path.{_≡_, refl, sym, ap, subst}
+use mathlib.Core.Bool.{Bool, true, false, cond}
 use mathlib.Core.List.{List, [], _∷_, _++_}
-use Prim.Native.Nat.{ℕ, _+_, _-_, _≤_, _<_, min}
+use Prim.Native.Nat.{ℕ, _+_, _-_, _≤_, min}
 use native.Mathlib.Omega.{arith}
 use lib.ListN.{length, length-append, length-drop}
 use lib.Dec.{leb, ltb, eqb}
 use borrow.Author.Tests.{ne-eqb}
 use Rattle.num.proofs.Logic.{never}
 use Rattle.window.specs.Window.{pushRow}
-use Rattle.detector.specs.Decision.{presentAfter, lastAfter, verdictAt}
+use Rattle.detector.specs.Decision.{presentAfter, lastAfter}
 use Rattle.detector.specs.Detector.{Detector, newDetector, restart, changed, startFor, withFrame, judged, pushFrame, verdictOf}
 use Rattle.detector.specs.declared.Limits.{Limits}
 use Rattle.detector.specs.declared.Verdict.{Verdict}

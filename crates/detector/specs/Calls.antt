@@ -7,7 +7,7 @@ use Prim.Native.Nat.{ℕ, _*_}
 use lib.ListN.{length, replicate}
 use lib.Dec.{leb, eqb}
 use Rattle.window.specs.Window.{maxRows, ringRows}
-use Rattle.window.specs.Sums.{Summing, totalBy}
+use Rattle.window.specs.Sums.{totalBy}
 use Rattle.detector.specs.State.{newState, resetState}
 use Rattle.detector.specs.Detector.{Kind, Valid, isValid, Pushes, detectorOf, restart}
 use Rattle.detector.specs.declared.Limits.{Limits}

@@ -1,5 +1,5 @@
 -- The state beside a ring, its range, and its steps (csi.rs and phase.rs, the fields of the detectors and `reset`, `push`). Assumes nothing.
-use mathlib.Core.Bool.{Bool, true, false, not, cond, _&&_}
+use mathlib.Core.Bool.{Bool, false, not, cond, _&&_}
 use Prim.Native.Nat.{ℕ, _≤_, _<_}
 use lib.Dec.{leb, ltb, eqb}
 use Rattle.window.specs.Window.{nextSlot, filledAfter}

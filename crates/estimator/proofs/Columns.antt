@@ -5,11 +5,12 @@ use Prim.Native.Nat.{ℕ, _+_, _-_, _≤_, _<_}
 use native.Mathlib.Decide.{decLt}
 use native.Mathlib.Omega.{arith}
 use borrow.Author.Tests.{lt-ltb, le-ltb}
-use lib.ListN.{length, getD, drop, length-map, length-append, length-drop, List·getD-eq-default, List·getD-append}
+use lib.ListN.{length, getD, drop, length-map, length-append, length-drop, List·getD-append}
 use lib.Seq.{ext-getD, take-at, getD-drop, getD-append-add}
 use lib.IntN.{ℤ, pos, natAbs, _-ℤ_}
 use Rattle.num.specs.Wrap.{wrap16}
 use Rattle.num.proofs.Abs.{abs-sfits}
+use Rattle.num.proofs.Each.{at-every}
 use Rattle.num.proofs.Clamp.{clamp-size}
 use Rattle.num.proofs.Lists.{map-at, length-build, at-build}
 use Rattle.num.proofs.Wrap.{wrap16-fits}
@@ -53,11 +54,7 @@ turn-high k n h = rw (le-ltb k n h)
 
 -- entries of 16 bits
 samples-by : (x : List ℤ) → ((k : ℕ) → k < length x → natAbs (at x k) ≤ 32768) → Samples x
-samples-by x f k = go (decLt k (length x))
-  where
-    go : Dec (k < length x) → natAbs (at x k) ≤ 32768
-    go (yes h) = f k h
-    go (no g) = rw (List·getD-eq-default x (pos 0) {n = k} (omega arith)) (omega arith)
+samples-by x = at-every (λ (z : ℤ). natAbs z ≤ 32768) (pos 0) (omega arith) x
 
 clamp16-size : (z : ℤ) → natAbs (clamp16 z) ≤ 32768
 clamp16-size z = clamp-size 32767 32767 z

@@ -1,41 +1,33 @@
 -- A frame taken: each step of the state and its ring is the step of the estimator that they stand for, and stays in range. Assumes nothing.
 use mathlib.Core.Path.{_≡_, refl, sym, ap, _∙_}
 use mathlib.Core.Bool.{Bool, true, false, cond}
-use mathlib.Core.List.{List, [], _∷_, map}
-use Prim.Native.Nat.{ℕ, zero, suc, _+_, _-_, _*_, _/_, _≤_, _<_}
+use mathlib.Core.List.{List, [], map}
+use Prim.Native.Nat.{ℕ, _+_, _*_, _/_, _≤_, _<_}
 use native.Mathlib.Nat.{mod-lt}
 use native.Mathlib.Decide.{decLt}
 use native.Mathlib.Omega.{arith}
 use borrow.Author.Tests.{lt-ltb, le-ltb, ne-eqb, eqb-true, leb-false}
-use lib.Dec.{eqb}
-use lib.ListN.{length, take, drop, getD, set, replicate, length-replicate, getD-replicate, length-map, List·getD-eq-default}
+use lib.Dec.{ltb, eqb}
+use lib.ListN.{length, take, drop, getD, set, replicate, length-replicate, getD-replicate, length-map}
 use lib.Seq.{length-take-le, take-at, getD-take}
 use Rattle.num.specs.Lists.{plus}
+use Rattle.num.proofs.Cond.{cond-holds}
+use Rattle.num.proofs.Each.{at-every}
 use Rattle.num.proofs.Logic.{never}
-use Rattle.num.proofs.Totals.{length-plus, take-plus, take-map, plus-most}
+use Rattle.num.proofs.Lists.{take-map, take-replicate}
+use Rattle.num.proofs.Totals.{length-plus, take-plus, plus-most}
 use Rattle.window.specs.Window.{columns, ringRows, pushRow, windowOf, overwrite, nextSlot, filledAfter}
 use Rattle.window.specs.Words.{words}
 use Rattle.window.proofs.Rows.{length-cut}
 use Rattle.window.proofs.View.{window-push, window-none, length-window}
 use Rattle.vitals.specs.declared.config.VitalsConfig.{VitalsConfig}
 use Rattle.estimator.specs.Estimate.{estimateOf}
-use Rattle.estimator.specs.Estimator.{Rhythm, Step, restarted, startFor, withFrame, closed, orOne, dueAt, judged, fed, pushFrame}
+use Rattle.estimator.specs.Estimator.{Rhythm, restarted, startFor, withFrame, closed, orOne, dueAt, withoutEstimate, judged, pushFrame}
 use Rattle.estimator.specs.State.{rhythmAt, ringLength, restartedAt, begunAt, fedAt, closedAt, restedAt, judgedAt, begunTotals, fedTotals, rowsWith, judgedBy, Took}
 use Rattle.estimator.specs.declared.Answer.the-variants.{NotDue, Due}
 use Rattle.estimator.specs.declared.Progress.{Progress}
 use Rattle.estimator.specs.declared.steps.Stepped.{Stepped}
 use Rattle.estimator.proofs.Facts.{Legal, Bounded, Waiting, InRange, range-tells}
-
-take-zeros : (n m : ℕ) → n ≤ m → take {A = ℕ} n (replicate m 0) ≡ replicate n 0
-take-zeros zero zero h = refl
-take-zeros zero (suc m) h = refl
-take-zeros (suc n) zero h = absurd (omega arith)
-take-zeros (suc n) (suc m) h = ap (λ (l : List ℕ). 0 ∷ l) (take-zeros n m (omega arith))
-
--- what holds of both holds of the one that is picked
-picked : {A : Type 0} (P : A → Type 0) (b : Bool) (x y : A) → (b ≡ true → P x) → (b ≡ false → P y) → P (cond b x y)
-picked P true x y px py = px refl
-picked P false x y px py = py refl
 
 zero-bound : (frames : ℕ) → Bounded frames (replicate columns 0)
 zero-bound frames k h = rw (getD-replicate {A = ℕ} columns k 0 0 h) (omega arith)
@@ -53,7 +45,7 @@ restart-range cfg n count some narrow = record {
 
 pub restart-law : (count : ℕ) (rows : List (List ℕ)) → count ≤ columns → rhythmAt (restartedAt count) (replicate columns 0) rows ≡ restarted count
 unfolding rhythmAt
-restart-law count rows narrow = rw (window-none 0 count rows, take-zeros count columns narrow)
+restart-law count rows narrow = rw (window-none 0 count rows, take-replicate {A = ℕ} 0 count columns narrow)
 
 -- the start of a frame: an unchanged count, or a restart
 module _ (cfg : VitalsConfig) (n : ℕ) (p : Progress) (acc : List ℕ) (range : InRange cfg n p acc) (acc-long : length acc ≡ columns) (some : 1 ≤ n) (count : ℕ) (narrow : count ≤ columns) where
@@ -65,10 +57,10 @@ module _ (cfg : VitalsConfig) (n : ℕ) (p : Progress) (acc : List ℕ) (range :
       go false = restart-range cfg n count some narrow
 
   pub begun-count : begunAt p count .count ≡ count
-  begun-count = picked (λ (t : Progress). t .count ≡ count) (eqb (p .count) count) p (restartedAt count) (λ e. eqb-true (p .count) count e) (λ e. refl)
+  begun-count = cond-holds (λ (t : Progress). t .count ≡ count) (eqb (p .count) count) p (restartedAt count) (λ e. eqb-true (p .count) count e) (λ e. refl)
 
   pub begun-long : length (begunTotals p acc count) ≡ columns
-  begun-long = picked (λ (t : List ℕ). length t ≡ columns) (eqb (p .count) count) acc (replicate columns 0) (λ e. acc-long) (λ e. length-replicate {A = ℕ} columns 0)
+  begun-long = cond-holds (λ (t : List ℕ). length t ≡ columns) (eqb (p .count) count) acc (replicate columns 0) (λ e. acc-long) (λ e. length-replicate {A = ℕ} columns 0)
 
   begun-law : (rows : List (List ℕ)) (f : List ℕ) → length f ≡ count → rhythmAt (begunAt p count) (begunTotals p acc count) rows ≡ startFor (rhythmAt p acc rows) f
   unfolding rhythmAt
@@ -98,7 +90,7 @@ close-law n p acc rows rows-long slot most narrow acc-long =
     take-at (take (p .count) m) (drop (p .count) (getD rows (p .next) [])) (p .count) (length-take-le (p .count) m (omega (arith, length-map acc mean))) ∙ take-map mean (p .count) acc in
     let window : windowOf (nextSlot n (p .next)) (filledAfter n (p .filled)) (p .count) (set rows (p .next) row) ≡ pushRow n (windowOf (p .next) (p .filled) (p .count) rows) (take (p .count) row) =
     window-push n (p .next) (p .filled) (p .count) rows row slot most rows-long in
-    rw (window, front, take-zeros (p .count) columns narrow, length-take-le (p .count) acc (omega arith))
+    rw (window, front, take-replicate {A = ℕ} 0 (p .count) columns narrow, length-take-le (p .count) acc (omega arith))
 
 -- an estimate that is due finds the window full; one that is not due, in a full window, has few blocks since the last
 due-full : (every n filled since : ℕ) → dueAt every n filled since ≡ true → n ≤ filled
@@ -158,35 +150,36 @@ module _ (cfg : VitalsConfig) (n time : ℕ) (p : Progress) (acc bytes amplitude
   -- the totals of a frame more
   pub fed-bound : ((k : ℕ) → k < count → getD amplitude k 0 ≤ 65535) → Bounded (start .«acc_n» + 1) totals
   fed-bound small k h =
-      let sum = plus-most (start .«acc_n» * 65535) 65535 (begunTotals p acc count) frame (λ j. old j (decLt j columns)) (λ j. new j (decLt j count)) k in
-      omega (arith, sum)
-    where
-      old : (j : ℕ) → Dec (j < columns) → getD (begunTotals p acc count) j 0 ≤ start .«acc_n» * 65535
-      old j (yes l) = from .totals j l
-      old j (no f) = rw (List·getD-eq-default (begunTotals p acc count) 0 {n = j} (omega (arith, begun-long cfg n p acc (g .range) (g .acc-long) some count (g .narrow)))) (omega arith)
-
-      new : (j : ℕ) → Dec (j < count) → getD (take count amplitude) j 0 ≤ 65535
-      new j (yes l) = rw (getD-take count amplitude j 0 l) (small j l)
-      new j (no f) = rw (List·getD-eq-default (take count amplitude) 0 {n = j} (omega (arith, frame-long))) (omega arith)
+      let long = begun-long cfg n p acc (g .range) (g .acc-long) some count (g .narrow) in
+      omega (
+        arith,
+        plus-most (start .«acc_n» * 65535) 65535 (begunTotals p acc count) frame
+            (at-every (λ (v : ℕ). v ≤ start .«acc_n» * 65535) 0 (omega arith) (begunTotals p acc count) (λ j l. from .totals j (omega arith)))
+            (at-every (λ (v : ℕ). v ≤ 65535) 0 (omega arith) frame (λ j l. let in-frame : j < count = omega (arith, frame-long) in rw (getD-take count amplitude j 0 in-frame) (small j in-frame)))
+            k,
+      )
 
   pub totals-long : length totals ≡ columns
   totals-long = length-plus (begunTotals p acc count) frame ∙ begun-long cfg n p acc (g .range) (g .acc-long) some count (g .narrow)
 
-  -- a push as far as the fed block
-  fed-law : (count ≡ 0 → ⊥) → fed cfg n time (rhythmAt (fedAt start) totals rows) ≡ pushFrame cfg n time (rhythmAt p acc rows) frame
-  unfolding pushFrame
-  fed-law not-none =
-      let at-count : start .count ≡ count = begun-count cfg n p acc (g .range) (g .acc-long) some count (g .narrow) in
-      let begun : rhythmAt start (begunTotals p acc count) rows ≡ startFor (rhythmAt p acc rows) frame = begun-law cfg n p acc (g .range) (g .acc-long) some count (g .narrow) rows frame frame-long in
-      let body : Step = fed cfg n time (withFrame (startFor (rhythmAt p acc rows) frame) frame) in
-      let not-empty : eqb (length frame) 0 ≡ false = ne-eqb (length frame) 0 (λ z. not-none (sym frame-long ∙ z)) in
-      ap (fed cfg n time) (feed-law start (begunTotals p acc count) rows frame (frame-long ∙ sym at-count) (omega (arith, begun-long cfg n p acc (g .range) (g .acc-long) some count (g .narrow))) ∙ ap (λ (d : Rhythm). withFrame d frame) begun)
-      ∙ sym (ap (λ (b : Bool). cond b (record { after = rhythmAt p acc rows; answer = NotDue }) body) not-empty)
+  at-count : start .count ≡ count
+  at-count = begun-count cfg n p acc (g .range) (g .acc-long) some count (g .narrow)
 
-  -- the block stays open
-  open-law : start .«acc_n» + 1 < orOne (cfg .decim) → record { after = rhythmAt (fedAt start) totals rows; answer = NotDue } ≡ fed cfg n time (rhythmAt (fedAt start) totals rows)
-  unfolding rhythmAt
-  open-law still = rw (lt-ltb (start .«acc_n» + 1) (orOne (cfg .decim)) still)
+  -- the frame in the open block
+  abbrev added : Rhythm
+  added = rhythmAt (fedAt start) totals rows
+
+  added-law : added ≡ withFrame (startFor (rhythmAt p acc rows) frame) frame
+  added-law =
+      feed-law start (begunTotals p acc count) rows frame (frame-long ∙ sym at-count) (omega (arith, at-count, g .narrow, begun-long cfg n p acc (g .range) (g .acc-long) some count (g .narrow)))
+      ∙ ap (λ (d : Rhythm). withFrame d frame) (begun-law cfg n p acc (g .range) (g .acc-long) some count (g .narrow) rows frame frame-long)
+
+  -- a push, by whether that block is whole
+  push-law : (count ≡ 0 → ⊥) → cond (ltb (start .«acc_n» + 1) (orOne (cfg .decim))) (withoutEstimate added) (judged cfg n time (closed n added)) ≡ pushFrame cfg n time (rhythmAt p acc rows) frame
+  unfolding pushFrame rhythmAt
+  push-law not-none =
+      rw (ne-eqb (length frame) 0 (λ z. not-none (sym frame-long ∙ z)))
+      (ap (λ (d : Rhythm). cond (ltb (d .frames) (orOne (cfg .decim))) (withoutEstimate d) (judged cfg n time (closed n d))) added-law)
 
   pub took-open : (count ≡ 0 → ⊥) → Bounded (start .«acc_n» + 1) totals → start .«acc_n» + 1 < orOne (cfg .decim)
       → Took cfg n time p acc bytes amplitude count (record { progress = fedAt start; answer = NotDue }) totals bytes
@@ -203,7 +196,7 @@ module _ (cfg : VitalsConfig) (n time : ℕ) (p : Progress) (acc bytes amplitude
       totals = bound;
       since = record { filling = from .since .filling; full = from .since .full };
     });
-    step = open-law still ∙ fed-law not-none;
+    step = rw (lt-ltb (start .«acc_n» + 1) (orOne (cfg .decim)) still) at (push-law not-none);
   }
 
   -- the blocks since the last estimate are few
@@ -227,18 +220,11 @@ module _ (cfg : VitalsConfig) (n time : ℕ) (p : Progress) (acc bytes amplitude
       rows-long : length rows′ ≡ n
       rows-long = length-cut n columns (words bytes′)
 
-      at-count : start .count ≡ count
-      at-count = begun-count cfg n p acc (g .range) (g .acc-long) some count (g .narrow)
-
-      whole-law : judged cfg n time (closed n (rhythmAt (fedAt start) totals rows)) ≡ fed cfg n time (rhythmAt (fedAt start) totals rows)
-      unfolding rhythmAt
-      whole-law = rw (le-ltb (start .«acc_n» + 1) (orOne (cfg .decim)) full)
-
       closing : judged cfg n time (rhythmAt now (replicate columns 0) rows′) ≡ pushFrame cfg n time (rhythmAt p acc rows) frame
       closing =
           ap (λ (r : List (List ℕ)). judged cfg n time (rhythmAt now (replicate columns 0) r)) (written ∙ ap (rowsWith (fedAt start) totals rows) (sym at-count))
           ∙ ap (judged cfg n time) (close-law n (fedAt start) totals rows (length-cut n columns (words bytes)) (from .slot) (from .most) (from .narrow) totals-long)
-          ∙ whole-law ∙ fed-law not-none
+          ∙ (rw (le-ltb (start .«acc_n» + 1) (orOne (cfg .decim)) full) at (push-law not-none))
 
       -- the window as long as it is filled
       blocks-long : length (windowOf (now .next) (now .filled) (now .count) rows′) ≡ now .filled

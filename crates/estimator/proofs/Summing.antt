@@ -9,9 +9,10 @@ use borrow.Author.Tests.{lt-ltb, le-ltb}
 use lib.Dec.{ltb}
 use lib.ListN.{length, length-append}
 use lib.Seq.{ext-getD}
-use lib.IntN.{ℤ, pos, negsuc, natAbs, _+ℤ_}
+use lib.IntN.{ℤ, pos, _+ℤ_}
 use Rattle.num.specs.Lists.{build, keep}
 use Rattle.num.specs.Sum.{sumZ}
+use Rattle.num.proofs.Abs.{abs-zero}
 use Rattle.num.proofs.Lists.{length-build, at-build, build-more, keep-yes, keep-no}
 use Rattle.num.proofs.SumZ.{sum-map-snoc}
 use Rattle.window.specs.Window.{columns, ringRows, windowOf, width}
@@ -23,10 +24,6 @@ use Rattle.vitals.specs.Series.{at, prepared}
 use Rattle.vitals.specs.Correlation.{energy, corrOf, rhythmic, curve}
 use Rattle.vitals.specs.Steps.{Within, Joined}
 use Rattle.estimator.specs.Estimate.{series, columnsOf}
-
-abs-zero : (z : ℤ) → natAbs z ≤ 0 → z ≡ pos 0
-abs-zero (pos n) h = let e : n ≡ 0 = omega arith in ap pos e
-abs-zero (negsuc n) h = absurd (omega arith)
 
 -- the columns so far that have energy
 abbrev pub soFar : ℕ → List (List ℕ) → ℕ → List (List ℤ)

@@ -56,16 +56,20 @@ dueAt every n blocks since = cond (ltb blocks n) false (leb every since)
 abbrev pub rested : Rhythm → Rhythm
 rested d = record { blocks = d .blocks; totals = d .totals; frames = d .frames; since = 0 }
 
+abbrev pub withoutEstimate : Rhythm → Step
+withoutEstimate d = record { after = d; answer = NotDue }
+
+-- after a block: the estimate of the window, where one is due
 abbrev pub judged : VitalsConfig → (n time : ℕ) → Rhythm → Step
 judged cfg n time d =
     cond (dueAt (orOne (cfg .«update_every»)) n (length (d .blocks)) (d .since))
     (record { after = rested d; answer = Due (estimateOf cfg time (d .blocks)) })
-    (record { after = d; answer = NotDue })
+    (withoutEstimate d)
 
-abbrev pub fed : VitalsConfig → (n time : ℕ) → Rhythm → Step
-fed cfg n time d = cond (ltb (d .frames) (orOne (cfg .decim))) (record { after = d; answer = NotDue }) (judged cfg n time (closed n d))
-
--- one frame; an empty one changes nothing
+-- One frame: an empty one changes nothing; any other is added to the open block, which is closed when it has its `decim` frames
 unfoldable pub pushFrame : VitalsConfig → (n time : ℕ) → Rhythm → List ℕ → Step
 pushFrame cfg n time d frame =
-    cond (eqb (length frame) 0) (record { after = d; answer = NotDue }) (fed cfg n time (withFrame (startFor d frame) frame))
+    let added = withFrame (startFor d frame) frame in
+    cond (eqb (length frame) 0) (withoutEstimate d)
+    (cond (ltb (added .frames) (orOne (cfg .decim))) (withoutEstimate added)
+    (judged cfg n time (closed n added)))

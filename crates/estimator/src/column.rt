@@ -1,14 +1,13 @@
 // A column of the window: read from the ring, prepared, and its correlations added to the sums (vitals.rs, `estimate`).
 ghost use mathlib.Core.Path.{_≡_};
-ghost use Prim.Native.Nat.{ℕ, _+_, _*_, _≤_, _<_};
+ghost use Prim.Native.Nat.{_+_, _*_, _≤_, _<_};
 ghost use lib.ListN.{length, getD, take};
 ghost use lib.IntN.{pos};
-ghost use Rattle.num.specs.Lists.{build};
 ghost use Rattle.num.specs.Wrap.{wrap16};
 ghost use Rattle.window.specs.Window.{columns, ringRows, windowOf};
 ghost use Rattle.window.specs.Words.{words};
 ghost use Rattle.vitals.specs.Series.{centred, highpassed, prepared};
-ghost use Rattle.vitals.specs.Correlation.{rhythmic, curve};
+ghost use Rattle.vitals.specs.Correlation.{curve};
 ghost use Rattle.vitals.specs.Steps.{Padded, Within, Joined};
 ghost use Rattle.estimator.specs.Estimate.{series, columnsOf};
 ghost use Rattle.estimator.specs.State.{ringLength};

@@ -1,7 +1,7 @@
 // The estimate over a full window, when one is due (vitals.rs, `push` and `estimate`).
 ghost use mathlib.Core.Path.{_≡_};
 ghost use mathlib.Core.Bool.{true};
-ghost use Prim.Native.Nat.{ℕ, _+_, _-_, _*_, _≤_, _<_, min};
+ghost use Prim.Native.Nat.{_+_, _-_, _≤_, _<_, min};
 ghost use lib.ListN.{length};
 ghost use Rattle.window.specs.Window.{columns, ringRows, windowOf};
 ghost use Rattle.vitals.specs.Band.{usable};

@@ -1,7 +1,7 @@
 // The estimator's steps, for a caller that has tested settings, memory and state once: the tests, a restart, one frame.
 ghost use mathlib.Core.Path.{_≡_};
 ghost use mathlib.Core.Bool.{true};
-ghost use Prim.Native.Nat.{ℕ, _≤_, max};
+ghost use Prim.Native.Nat.{_≤_, max};
 ghost use lib.ListN.{length};
 ghost use Rattle.window.specs.Window.{columns};
 ghost use Rattle.estimator.specs.State.{legal, bounded, waiting, inRange, ringLength, restartedAt, Took};

@@ -2,9 +2,8 @@
 use mathlib.Core.Path.{_≡_, refl, sym, _∙_, ap}
 use mathlib.Core.Bool.{Bool, true, false, cond, _&&_}
 use mathlib.Core.List.{List, [], _∷_}
-use Prim.Native.Nat.{ℕ, _-_, _<_, _≤_}
+use Prim.Native.Nat.{ℕ, _<_, _≤_}
 use native.Mathlib.Omega.{arith}
-use lib.Dec.{leb}
 use borrow.Author.Tests.{leb-true, leb-false, le-leb, lt-leb}
 use Rattle.fall.specs.declared.FallConfig.{FallConfig}
 use Rattle.fall.specs.declared.FallDetector.{FallDetector}
@@ -96,11 +95,8 @@ all-before : (fs : List Frame) (s t u : ℕ) → Onward s fs t → t < u → All
 all-before [] s t u on h = tt
 all-before (f ∷ fs) s t u on h = (let l = ends-last fs (f .time) t (on .1) in omega arith, all-before fs (f .time) t u (on .1) h)
 
-reached : (u t : ℕ) (b : Bool) → leb u t ≡ b → (t < u → ⊥) → u ≤ t
-reached u t true h never = leb-true u t h
-reached u t false h never = absurd (never (leb-false u t h))
-
 pub events-apart : EventsApart
 events-apart d f e fs g e′ h h′ on =
-    reached (endOf (d .config) (f .time)) (g .time) _ refl (λ before.
-    no-event e′ (sym (quiet-after-an-event d f e fs g h (all-before fs (f .time) (g .time) (endOf (d .config) (f .time)) on before)) ∙ h′))
+    let u : ℕ = endOf (d .config) (f .time) in
+    let never : g .time < u → ⊥ = λ before. no-event e′ (sym (quiet-after-an-event d f e fs g h (all-before fs (f .time) (g .time) u on before)) ∙ h′) in
+    omega arith

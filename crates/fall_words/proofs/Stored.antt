@@ -46,12 +46,9 @@ pub store-load : (w : Words) → legal w ≡ true → wordsOf (phaseOf w) ≡ w
 unfolding legal
 store-load w h = same (wordsOf (phaseOf w)) w h
 
-refl-eqb : (n : ℕ) → eqb n n ≡ true
-refl-eqb n = eq-eqb n n refl
-
 pub legal-words : (p : Phase) → legal (wordsOf p) ≡ true
 unfolding legal
-legal-words p = simp (load-store, refl-eqb)
+legal-words p = let alike : (n : ℕ) → eqb n n ≡ true = λ n. eq-eqb n n refl in simp (load-store, alike)
 
 tag-small : (p : Phase) → wordsOf p .tag ≤ 5
 unfolding wordsOf

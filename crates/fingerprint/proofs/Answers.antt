@@ -1,7 +1,7 @@
 -- What the tests of the code say of the answers that `specs/Baseline.antt` defines. Assumes nothing.
-use mathlib.Core.Path.{_≡_, refl, sym, ap, _∙_}
+use mathlib.Core.Path.{_≡_}
 use mathlib.Core.Bool.{true, false}
-use Prim.Native.Nat.{ℕ, _+_, _≤_, _<_}
+use Prim.Native.Nat.{ℕ, _≤_, _<_}
 use borrow.Author.Tests.{lt-ltb, le-ltb, eq-eqb, ne-eqb}
 use Rattle.csi.specs.Layout.{maxSubcarriers}
 use Rattle.csi.specs.declared.Features.{Features}

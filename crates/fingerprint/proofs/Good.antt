@@ -2,14 +2,14 @@
 use mathlib.Core.Path.{_≡_, refl}
 use mathlib.Core.Bool.{true}
 use mathlib.Core.List.{List, [], _∷_, _++_}
-use Prim.Native.Nat.{ℕ, zero, suc, _+_, _*_, _≤_, _<_}
+use Prim.Native.Nat.{ℕ, _*_, _≤_, _<_}
 use native.Mathlib.Omega.{arith}
 use borrow.Author.Tests.{leb-true, le-leb}
 use lib.Dec.{leb}
 use lib.ListN.{length, getD, length-append}
 use Rattle.num.specs.Sum.{total}
 use Rattle.num.proofs.Logic.{both}
-use Rattle.num.proofs.Sum.{total-snoc}
+use Rattle.num.proofs.Sum.{total-snoc, total-le}
 use Rattle.fingerprint.specs.Baseline.{maxFrames, maxVariance, good, fed, fresh, baselineOf}
 use Rattle.fingerprint.specs.declared.Baseline.{Baseline}
 
@@ -46,11 +46,6 @@ unfolding baselineOf
 fed-list vs v = rw (total-snoc vs v, length-append vs (v ∷ []))
 
 -- the baseline of at most 65,535 variances of 32 bits is in range
-list-facts : (vs : List ℕ) → ((i : ℕ) → getD vs i 0 ≤ maxVariance) → total vs ≤ length vs * maxVariance
-unfolding total
-list-facts [] f = omega arith
-list-facts (v ∷ vs) f = let r = list-facts vs (λ i. f (suc i)) in let h = f zero in omega arith
-
 pub list-good : (vs : List ℕ) → length vs ≤ maxFrames → ((i : ℕ) → getD vs i 0 ≤ maxVariance) → good (baselineOf vs) ≡ true
 unfolding baselineOf
-list-good vs l f = is-good (baselineOf vs) (record { few = l; bounded = list-facts vs f })
+list-good vs l f = is-good (baselineOf vs) (record { few = l; bounded = omega (arith, total-le maxVariance vs (λ i h. f i)) })

@@ -1,7 +1,7 @@
 -- The baseline of calibrated variances, and the distance from it (document 01, "Amplitudes and baseline"; fingerprint.rs). Assumes nothing.
 use mathlib.Core.Bool.{Bool, cond, not, _&&_}
 use mathlib.Core.List.{List}
-use Prim.Native.Nat.{ℕ, zero, suc, _+_, _*_, _/_, min}
+use Prim.Native.Nat.{ℕ, _+_, _*_, _/_, min}
 use lib.Dec.{ltb, leb, eqb}
 use lib.ListN.{length}
 use Rattle.num.specs.Sum.{apart, total}

@@ -1,6 +1,5 @@
 // Replays recorded baselines: a line for each. `stdout` holds what the Rust answered, and for what the Rust does not refuse, document
 // 01's number.
-ghost use Prim.Native.Nat.{_≤_};
 use cases::Case;
 use csi::Features;
 use fingerprint::Baseline;

@@ -1,3 +1,4 @@
+mod Choice
 pub mod Digits
 pub mod Fronts
 pub mod Several

@@ -1,7 +1,7 @@
 -- A value kept between a negative limit and one that is not: what the two tests decide, and its size. Assumes nothing.
 use mathlib.Core.Path.{_≡_, refl, sym, ap, _∙_}
 use mathlib.Core.Bool.{Bool, true, false, cond}
-use Prim.Native.Nat.{ℕ, suc, _≤_, _<_, max}
+use Prim.Native.Nat.{ℕ, suc, _≤_, max}
 use native.Mathlib.Omega.{arith}
 use borrow.Author.Tests.{ltb-false}
 use lib.IntN.{ℤ, pos, negsuc, natAbs}

@@ -7,7 +7,7 @@ use native.Mathlib.Nat.{suc-add, mul-suc, mul-le-mul}
 use native.Mathlib.Omega.{arith}
 use lib.IntN.{ℤ, pos, natAbs, _+ℤ_, _*ℤ_, +ℤ-assoc, +ℤ-idl, +ℤ-idr, *ℤ-zero}
 use lib.ListN.{length, getD, take, drop, length-take, length-drop}
-use lib.Seq.{take-nil, drop-nil, drop-drop, take-all, take-take, getD-drop}
+use lib.Seq.{take-nil, drop-drop, take-all, take-take, getD-drop}
 use Rattle.num.specs.Sum.{dotZ}
 use Rattle.num.proofs.Abs.{abs-add, abs-mul, square}
 use Rattle.num.proofs.Squares.{four-products}

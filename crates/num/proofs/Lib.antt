@@ -1,17 +1,24 @@
 pub mod Abs
+pub mod AddZ
 pub mod Arrays
 pub mod Bits
 pub mod Byte
 pub mod Clamp
 pub mod Cond
+pub mod Declared
 pub mod Diff
 pub mod Divisor
 pub mod Dot
+pub mod Each
+pub mod Elements
+pub mod Fields
 pub mod Fill
 pub mod First
 pub mod Lists
 pub mod Logic
+mod Magnitude
 pub mod Map
+pub mod Moved
 pub mod Order
 pub mod Parts
 pub mod Placed

@@ -1,11 +1,14 @@
--- Laws of lists given by their entries, and of lists that are thinned out. Assumes nothing.
+-- Laws of lists given by their entries, of lists that are thinned out, of parts of what is made of a list, and of one element many times.
+-- Assumes nothing.
 use mathlib.Core.Path.{_≡_, refl, sym, ap, _∙_}
 use mathlib.Core.Bool.{Bool, true, false, cond}
 use mathlib.Core.List.{List, [], _∷_, _++_, map, append-nil}
-use Prim.Native.Nat.{ℕ, zero, suc, _+_, _<_, _≤_}
+use mathlib.Core.Logic.{by-cases}
+use Prim.Native.Nat.{ℕ, zero, suc, _+_, _-_, min, _<_, _≤_}
+use native.Mathlib.Decide.{decLe}
 use native.Mathlib.Omega.{arith}
-use lib.ListN.{length, getD}
-use lib.Seq.{ext-getD}
+use lib.ListN.{length, getD, take, drop, replicate}
+use lib.Seq.{ext-getD, take-all, take-length}
 use Rattle.num.specs.Lists.{build, keep}
 
 module _ {A : Type 0} where
@@ -54,3 +57,44 @@ pub map-at : {A B : Type 0} (f : A → B) (l : List A) (k : ℕ) (a : A) (b : B)
 map-at f [] k a b h = absurd (omega arith)
 map-at f (x ∷ xs) zero a b h = refl
 map-at f (x ∷ xs) (suc k) a b h = map-at f xs k a b (omega arith)
+
+-- a part of it is made of that part of the list
+module _ {A B : Type 0} (f : A → B) where
+  pub take-map : (n : ℕ) (l : List A) → take n (map f l) ≡ map f (take n l)
+  take-map zero l = refl
+  take-map (suc n) [] = refl
+  take-map (suc n) (x ∷ l) = ap (λ (r : List B). f x ∷ r) (take-map n l)
+
+  pub drop-map : (n : ℕ) (l : List A) → drop n (map f l) ≡ map f (drop n l)
+  drop-map zero l = refl
+  drop-map (suc n) [] = refl
+  drop-map (suc n) (x ∷ l) = drop-map n l
+
+  pub part-map : (n from : ℕ) (l : List A) → map f (take n (drop from l)) ≡ take n (drop from (map f l))
+  part-map n from l = sym (ap (take n) (drop-map from l) ∙ take-map n (drop from l))
+
+-- a part that reaches past the end ends there
+pub take-min : {A : Type 0} (k : ℕ) (l : List A) → take (min k (length l)) l ≡ take k l
+take-min k l =
+    by-cases (decLe k (length l)) (λ h. let e : min k (length l) ≡ k = omega arith in rw e)
+    (λ f. let e : min k (length l) ≡ length l = omega arith in rw (e, take-all k l (omega arith)) (take-length l))
+
+-- n times a: its parts
+module _ {A : Type 0} (a : A) where
+  pub take-replicate : (k n : ℕ) → k ≤ n → take k (replicate n a) ≡ replicate k a
+  take-replicate zero n h = refl
+  take-replicate (suc k) zero h = absurd (omega arith)
+  take-replicate (suc k) (suc n) h = ap (λ (l : List A). a ∷ l) (take-replicate k n (omega arith))
+
+  pub drop-replicate : (k n : ℕ) → drop k (replicate n a) ≡ replicate (n - k) a
+  drop-replicate zero n = let e : n ≡ n - 0 = omega arith in ap (λ (i : ℕ). replicate i a) e
+  drop-replicate (suc k) zero = let e : 0 ≡ 0 - suc k = omega arith in ap (λ (i : ℕ). replicate i a) e
+  drop-replicate (suc k) (suc n) = let e : n - k ≡ suc n - suc k = omega arith in drop-replicate k n ∙ ap (λ (i : ℕ). replicate i a) e
+
+  pub part-replicate : (from k n : ℕ) → from + k ≤ n → take k (drop from (replicate n a)) ≡ replicate k a
+  part-replicate from k n h = ap (take k) (drop-replicate from n) ∙ take-replicate k (n - from) (omega arith)
+
+-- a list of which each element is v
+pub all-same : {A : Type 0} (v d : A) (xs : List A) → ((i : ℕ) → i < length xs → getD xs i d ≡ v) → xs ≡ replicate (length xs) v
+all-same v d [] h = refl
+all-same v d (x ∷ xs) h = rw (h 0 (omega arith), ← all-same v d xs (λ i l. h (suc i) (omega arith)))

@@ -1,15 +1,30 @@
 -- A part of a slice that is lent on: what is lent, and the whole once the part has come back. `&mut s[a..]` reaches to the end.
 -- Assumes nothing.
-use Prim.Native.Nat.{ℕ, _-_, _+_, _≤_}
-use mathlib.Core.Path.{_≡_, refl, sym, ap, _∙_}
+use Prim.Native.Nat.{ℕ, _-_, _+_, _≤_, _<_}
+use mathlib.Core.Path.{_≡_, sym, ap, _∙_, subst}
 use mathlib.Core.List.{List, _++_, append-nil, append-assoc}
 use native.Mathlib.Omega.{arith}
-use lib.ListN.{length, take, drop, length-append, length-drop, drop-of-length-le, take-append-drop}
-use lib.Seq.{length-take-le, take-all, take-at, drop-at, drop-drop, take-append-le, drop-append-le}
+use lib.ListN.{length, getD, take, drop, length-append, length-drop, drop-of-length-le, take-append-drop}
+use lib.Seq.{length-take-le, length-front, getD-take, getD-drop, take-all, take-at, drop-at, drop-drop, take-append-le, drop-append-le}
 use borrow.Rule.Slice.PartMut.{putMid, postOf, same-len-mid}
 
+-- a part: its length, and its elements
+module _ {A : Type 0} (a k : ℕ) (s : List A) where
+  pub part-long : a + k ≤ length s → length (take k (drop a s)) ≡ k
+  part-long h = length-take-le k (drop a s) (omega (arith, length-drop a s))
+
+  pub part-at : (i : ℕ) (d : A) → i < k → getD (take k (drop a s)) i d ≡ getD s (a + i) d
+  part-at i d h = getD-take k (drop a s) i d h ∙ getD-drop a s i d
+
+-- a fact of a part's place and length, at equal ones; and the part itself
+pub at-part : (F : ℕ → ℕ → Type 0) {a b k j : ℕ} → a ≡ b → k ≡ j → F b j → F a k
+at-part F {a} {b} {k} ea ek f = subst (λ (x : ℕ). F x k) (sym ea) (subst (F b) (sym ek) f)
+
+pub same-part : {A : Type 0} (s : List A) (a b k j : ℕ) → a ≡ b → k ≡ j → take k (drop a s) ≡ take j (drop b s)
+same-part s a b k j ea ek = rw (ea, ek)
+
 -- the part that is lent is the rest of the list
-pub part-lent : (a : ℕ) (s : List ℕ) → take (length s - a) (drop a s) ≡ drop a s
+pub part-lent : {A : Type 0} (a : ℕ) (s : List A) → take (length s - a) (drop a s) ≡ drop a s
 part-lent a s = take-all (length s - a) (drop a s) (omega (arith, length-drop a s))
 
 -- nothing stands behind it
@@ -39,6 +54,10 @@ pub record Front (a : ℕ) (p m₀ m : List ℕ) : Type 0 where
 pub front-start : (a : ℕ) (m₀ : List ℕ) → a ≤ length m₀ → Front a (take a m₀) m₀ m₀
 front-start a m₀ h = record { long = length-take-le a m₀ h; whole = sym (take-append-drop a m₀) }
 
+-- it is as long as it was
+pub front-long : {a : ℕ} {p m₀ m : List ℕ} → Front a p m₀ m → a ≤ length m₀ → length m ≡ length m₀
+front-long {a} {p} {m₀} f h = ap length (f .whole) ∙ length-front m₀ p a (f .long ∙ sym (length-take-le a m₀ h))
+
 -- t is put behind them, over n bytes
 pub front-whole : {a : ℕ} {p m₀ m : List ℕ} (n : ℕ) (t m′ : List ℕ) → Front a p m₀ m → m′ ≡ take a m ++ (t ++ drop (a + n) m) → m′ ≡ (p ++ t) ++ drop (a + n) m₀
 front-whole {a} {p} {m₀} {m} n t m′ f e =
@@ -51,16 +70,6 @@ front-whole {a} {p} {m₀} {m} n t m′ f e =
 pub front-next : {a : ℕ} {p m₀ m : List ℕ} (n : ℕ) (t m′ : List ℕ) → Front a p m₀ m → length t ≡ n → m′ ≡ take a m ++ (t ++ drop (a + n) m) → Front (a + n) (p ++ t) m₀ m′
 front-next {a} {p} n t m′ f l e = record { long = length-append p t ∙ rw (f .long, l); whole = front-whole n t m′ f e }
 
--- a memory cut in two at a: the front lent and come back as p, then the rest lent and come back as q
-module _ (a : ℕ) (m p : List ℕ) (long : length p ≡ a) where
-  -- what the second loan is lent
-  pub rest-lent : take (length (p ++ drop a m) - a) (drop a (p ++ drop a m)) ≡ drop a m
-  rest-lent = part-lent a (p ++ drop a m) ∙ drop-at p (drop a m) a long
-
-  -- what is there once both are back
-  pub both-back : (q : List ℕ) → putMid a (length (p ++ drop a m) - a) (p ++ drop a m) q ≡ p ++ q
-  both-back q = part-back a (p ++ drop a m) q ∙ rw (take-at p (drop a m) a long)
-
 -- a part that came back as long as it was: itself, and the parts beside it
 module _ (a k : ℕ) (s p : List ℕ) (fits : a + k ≤ length s) (long : length p ≡ k) where
   head-long : length (take a s) ≡ a
@@ -68,7 +77,7 @@ module _ (a k : ℕ) (s p : List ℕ) (fits : a + k ≤ length s) (long : length
 
   -- the list is as long as it was
   pub put-long : length (putMid a k s p) ≡ length s
-  put-long = same-len-mid a k s p (long ∙ sym (length-take-le k (drop a s) (omega (arith, length-drop a s))))
+  put-long = same-len-mid a k s p (long ∙ sym (part-long a k s fits))
 
   -- the part is what came back
   pub put-own : take k (drop a (putMid a k s p)) ≡ p

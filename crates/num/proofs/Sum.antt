@@ -1,12 +1,12 @@
 -- Laws of `total`, of means, and of sums of products. Assumes nothing.
 use mathlib.Core.Path.{_≡_, refl, sym, ap, subst, _∙_}
 use mathlib.Core.List.{List, [], _∷_, _++_}
-use Prim.Native.Nat.{ℕ, zero, suc, _+_, _*_, _/_, _≤_, min}
+use Prim.Native.Nat.{ℕ, zero, suc, _+_, _*_, _/_, _≤_, _<_, min}
 use native.Mathlib.Omega.{arith}
-use native.Mathlib.Nat.{mul-add, mul-one, mul-comm, div-le-of-le-mul}
+use native.Mathlib.Nat.{mul-add, mul-one, mul-comm, div-le-of-le-mul, div-lt-iff-lt-mul}
 use native.Mathlib.Decide.{decLe}
 use lib.IntN.{ℤ, pos, _+ℤ_, _*ℤ_}
-use lib.ListN.{length, take}
+use lib.ListN.{length, getD, take}
 use lib.Seq.{take-all}
 use Rattle.num.specs.Sum.{total, dotZ}
 
@@ -24,9 +24,18 @@ total-snoc xs x = let e = total-append xs (x ∷ []) in omega arith
 pub sum-le : (k : ℕ) {B s x : ℕ} → s ≤ B * k → x ≤ B → s + x ≤ B * (k + 1)
 sum-le k {B} {s} {x} h l = rw (mul-add B k 1, mul-one B) (omega arith)
 
+pub total-le : (B : ℕ) (xs : List ℕ) → ((k : ℕ) → k < length xs → getD xs k 0 ≤ B) → total xs ≤ B * length xs
+unfolding total
+total-le B [] f = omega arith
+total-le B (x ∷ xs) f = omega (arith, f zero (omega arith), total-le B xs (λ k h. f (suc k) (omega arith)))
+
 -- a mean is at most the most
 pub mean-le : (B n s : ℕ) → s ≤ B * n → s / n ≤ B
 mean-le B n s h = div-le-of-le-mul n (subst (λ (m : ℕ). s ≤ m) (mul-comm B n) h)
+
+-- and so is one that is rounded
+pub rounded-le : (B n s : ℕ) → 1 ≤ n → s ≤ B * n → (s + n / 2) / n ≤ B
+rounded-le B n s some h = let k : (s + n / 2) / n < B + 1 = div-lt-iff-lt-mul {k = n} some .1 (omega arith) in omega arith
 
 pub dot-nil : (xs : List ℤ) → dotZ xs [] ≡ pos 0
 unfolding dotZ

@@ -1,10 +1,10 @@
 -- Laws of `sumZ`: its size, its parts, and the sum of a part of a list that grows at its end and shrinks at its start. Assumes nothing.
-use mathlib.Core.Path.{_≡_, refl, sym, ap, _∙_}
+use mathlib.Core.Path.{_≡_, sym, ap, _∙_}
 use mathlib.Core.List.{List, [], _∷_, _++_, map, map-append}
-use Prim.Native.Nat.{ℕ, zero, suc, _+_, _-_, _*_, _≤_, _<_}
+use Prim.Native.Nat.{ℕ, zero, suc, _+_, _*_, _≤_, _<_}
 use native.Mathlib.Numerals.{add-one}
 use native.Mathlib.Omega.{arith}
-use lib.IntN.{ℤ, pos, negℤ, natAbs, _+ℤ_, _-ℤ_, +ℤ-assoc, +ℤ-comm, +ℤ-idl, +ℤ-idr, +ℤ-negℤ-cancel}
+use lib.IntN.{ℤ, pos, natAbs, _+ℤ_, _-ℤ_, +ℤ-assoc, +ℤ-comm, +ℤ-idl, +ℤ-idr, +ℤ-negℤ-cancel}
 use lib.ListN.{length, getD, take, length-take}
 use lib.Seq.{take-suc, drop-append-le, slice, slice-cons}
 use Rattle.num.specs.Sum.{sumZ}

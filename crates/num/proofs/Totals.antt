@@ -1,7 +1,7 @@
 -- Totals that the entries of a list are added to, one by one, and their bound. Assumes nothing.
 use mathlib.Core.Path.{_≡_, refl, sym, ap, _∙_}
-use mathlib.Core.List.{List, [], _∷_, map}
-use Prim.Native.Nat.{ℕ, zero, suc, _+_, _*_, _≤_, _<_}
+use mathlib.Core.List.{List, [], _∷_}
+use Prim.Native.Nat.{ℕ, zero, suc, _+_, _≤_, _<_}
 use native.Mathlib.Numerals.{add-one}
 use native.Mathlib.Omega.{arith}
 use lib.ListN.{length, getD, take, set}
@@ -44,12 +44,6 @@ take-plus (suc n) xs [] e h = absurd (omega arith)
 take-plus zero xs (y ∷ ys) e h = absurd (omega arith)
 take-plus (suc n) [] (y ∷ ys) e h = absurd (omega arith)
 take-plus (suc n) (x ∷ xs) (y ∷ ys) e h = ap (λ (l : List ℕ). (x + y) ∷ l) (take-plus n xs ys (omega arith) (omega arith))
-
-pub take-map : {A B : Type 0} (f : A → B) (n : ℕ) (l : List A) → take n (map f l) ≡ map f (take n l)
-take-map f zero [] = refl
-take-map f zero (x ∷ l) = refl
-take-map f (suc n) [] = refl
-take-map {A} {B} f (suc n) (x ∷ l) = ap (λ (t : List B). f x ∷ t) (take-map f n l)
 
 -- no sum is above the two bounds together
 pub plus-most : (b c : ℕ) (xs ys : List ℕ) → ((k : ℕ) → getD xs k 0 ≤ b) → ((k : ℕ) → getD ys k 0 ≤ c) → (k : ℕ) → getD (plus xs ys) k 0 ≤ b + c

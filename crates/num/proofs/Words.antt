@@ -4,12 +4,12 @@ use mathlib.Core.Path.{_≡_, refl, sym, ap, _∙_}
 use mathlib.Core.List.{List, [], _∷_, _++_}
 use native.Mathlib.Nat.{mul-assoc}
 use native.Mathlib.Numerals.{add-one}
-use native.Mathlib.Decide.{decLt}
 use native.Mathlib.Omega.{arith}
-use lib.ListN.{length, getD, take, drop, length-take, length-drop, List·getD-eq-default}
-use lib.Seq.{getD-take, getD-drop, length-take-le, drop-cons, drop-drop, take-add, take-at, drop-at}
+use lib.ListN.{length, getD, take, drop, length-take, length-drop}
+use lib.Seq.{getD-drop, length-take-le, drop-cons, drop-drop, drop-append-add, take-add}
 use Rattle.num.specs.Words.{le, leAt, leBytes, putLe}
-use Rattle.num.proofs.Parts.{front-put}
+use Rattle.num.proofs.Each.{at-every}
+use Rattle.num.proofs.Parts.{part-at, front-put}
 
 pub length-leBytes : (k n : ℕ) → length (leBytes k n) ≡ k
 length-leBytes zero n = refl
@@ -40,13 +40,17 @@ leBytes-le (b ∷ bs) f =
     let high : (b + 256 * le bs) / 256 ≡ le bs = omega arith in
     rw (low, high, leBytes-le bs (λ i. f (suc i)))
 
--- what holds of each element, and of the default, holds of each of a part
+-- each of a part is a byte, and of all that stand behind the first a
 pub byte-part : (s : List ℕ) → ((i : ℕ) → getD s i 0 < 256) → (a k i : ℕ) → getD (take k (drop a s)) i 0 < 256
-byte-part s f a k i = go (decLt i k)
-  where
-    go : Dec (i < k) → getD (take k (drop a s)) i 0 < 256
-    go (yes h) = rw (getD-take k (drop a s) i 0 h, getD-drop a s i 0) (f (a + i))
-    go (no g) = rw (List·getD-eq-default (take k (drop a s)) 0 {n = i} (omega (arith, length-take k (drop a s)))) (omega arith)
+byte-part s f a k =
+    at-every (λ (x : ℕ). x < 256) 0 (omega arith) (take k (drop a s)) (λ i h. rw (part-at a k s i 0 (omega (arith, length-take k (drop a s)))) (f (a + i)))
+
+pub byte-drop : (s : List ℕ) → ((i : ℕ) → getD s i 0 < 256) → (a i : ℕ) → getD (drop a s) i 0 < 256
+byte-drop s f a i = rw (getD-drop a s i 0) (f (a + i))
+
+-- a word of what stands behind p
+pub leAt-behind : (p x : List ℕ) (j k : ℕ) → leAt (p ++ x) (length p + j) k ≡ leAt x j k
+leAt-behind p x j k = rw (drop-append-add p x j)
 
 pub leBytes-leAt : (s : List ℕ) → ((i : ℕ) → getD s i 0 < 256) → (a k : ℕ) → a + k ≤ length s → leBytes k (leAt s a k) ≡ take k (drop a s)
 leBytes-leAt s f a k h =
@@ -86,9 +90,3 @@ le-pair s i h = rw (drop-cons s i 0 (omega arith), drop-cons s (suc i) 0 (omega 
 pub put-le : (k i n : ℕ) (b s p : List ℕ) → b ≡ leBytes k n → p ≡ b ++ drop (length b) (take (length s - i) (drop i s))
     → take i s ++ (p ++ drop (length s - i) (drop i s)) ≡ putLe k s i n
 put-le k i n b s p eb ep = front-put i b (leBytes k n) s p eb ep ∙ rw (length-leBytes k n)
-
--- what is written is read back
-pub read-put : (k i n : ℕ) (bytes : List ℕ) → i ≤ length bytes → n < 256 ^ k → leAt (putLe k bytes i n) i k ≡ n
-read-put k i n bytes h l =
-    rw (drop-at (take i bytes) (leBytes k n ++ drop (i + k) bytes) i (length-take-le i bytes h), take-at (leBytes k n) (drop (i + k) bytes) k (length-leBytes k n))
-    (le-leBytes k n l)

@@ -1,13 +1,13 @@
 -- Each step of the line's arithmetic fits 64 bits, from the sizes of what goes in. Assumes nothing.
 use mathlib.Core.Path.{_≡_}
 use Prim.Native.Nat.{ℕ, _-_, _*_, _/_, _≤_, _<_}
-use native.Mathlib.Nat.{div-le-of-le-mul}
+use native.Mathlib.Nat.{div-le-of-le-mul, mul-le-mul, mul-le-mul-left}
 use native.Mathlib.Omega.{arith}
 use lib.IntN.{ℤ, pos, natAbs, _-ℤ_, _*ℤ_}
 use mir.Syntax.{w64}
 use mir.Val.{SFits}
 use Rattle.csi.specs.Layout.{maxSubcarriers}
-use Rattle.num.proofs.Abs.{sfits-abs, abs-sub, abs-mul, abs-quot, abs-quot-le, mul-le}
+use Rattle.num.proofs.Abs.{sfits-abs, abs-sub, abs-mul, abs-quot, abs-quot-le}
 use Rattle.phase.specs.Line.{sumK, denominator, slopeOf, interceptOf, one, arc, placeMost, steepest, slopeMost, interceptMost}
 use Rattle.phase.proofs.Sizes.{sumK-le, steep}
 
@@ -31,11 +31,11 @@ slope-fits n su sku h2 hn hu hk =
     let ea : natAbs a ≡ n * natAbs sku = abs-mul (pos n) sku in
     let eb : natAbs b ≡ sumK n * natAbs su = abs-mul (pos (sumK n)) su in
     let ed : natAbs (d *ℤ pos one) ≡ natAbs d * one = abs-mul d (pos one) in
-    let la : n * natAbs sku ≤ n * (maxSubcarriers * (arc * n * n)) = mul-le {a = n} {A = n} (omega arith) hk in
-    let lb : sumK n * natAbs su ≤ sumK n * (arc * n * n) = mul-le {a = sumK n} {A = sumK n} (omega arith) hu in
-    let ln : n * n ≤ maxSubcarriers * maxSubcarriers = mul-le hn hn in
-    let l3 : n * n * n ≤ maxSubcarriers * maxSubcarriers * maxSubcarriers = mul-le ln hn in
-    let ls : sumK n * (n * n) ≤ mostK * (maxSubcarriers * maxSubcarriers) = mul-le (sumK-le n hn) ln in
+    let la : n * natAbs sku ≤ n * (maxSubcarriers * (arc * n * n)) = mul-le-mul-left n hk in
+    let lb : sumK n * natAbs su ≤ sumK n * (arc * n * n) = mul-le-mul-left (sumK n) hu in
+    let ln : n * n ≤ maxSubcarriers * maxSubcarriers = mul-le-mul hn hn in
+    let l3 : n * n * n ≤ maxSubcarriers * maxSubcarriers * maxSubcarriers = mul-le-mul ln hn in
+    let ls : sumK n * (n * n) ≤ mostK * (maxSubcarriers * maxSubcarriers) = mul-le-mul (sumK-le n hn) ln in
     let lc = abs-sub a b in let st = steep n h2 hn in
     let lq : natAbs (d *ℤ pos one) / denominator n ≤ steepest * (arc * one) = div-le-of-le-mul (denominator n) (omega arith) in
     let eq = abs-quot (d *ℤ pos one) (pos (denominator n)) in
@@ -61,8 +61,8 @@ intercept-fits n su slope hn hu hs =
     let a = su *ℤ pos one in let b = slope *ℤ pos (sumK n) in
     let ea : natAbs a ≡ natAbs su * one = abs-mul su (pos one) in
     let eb : natAbs b ≡ natAbs slope * sumK n = abs-mul slope (pos (sumK n)) in
-    let lb : natAbs slope * sumK n ≤ slopeMost * mostK = mul-le hs (sumK-le n hn) in
-    let ln : n * n ≤ maxSubcarriers * maxSubcarriers = mul-le hn hn in
+    let lb : natAbs slope * sumK n ≤ slopeMost * mostK = mul-le-mul hs (sumK-le n hn) in
+    let ln : n * n ≤ maxSubcarriers * maxSubcarriers = mul-le-mul hn hn in
     let lc = abs-sub a b in let ld = abs-quot-le (a -ℤ b) (pos n) in
     record {
       scaled = sfits-abs a (omega arith);
@@ -84,7 +84,7 @@ residual-fits v k slope icpt hv hk hs hi =
     let a = v *ℤ pos one in let b = slope *ℤ pos k in
     let ea : natAbs a ≡ natAbs v * one = abs-mul v (pos one) in
     let eb : natAbs b ≡ natAbs slope * k = abs-mul slope (pos k) in
-    let lb : natAbs slope * k ≤ slopeMost * maxSubcarriers = mul-le {B = maxSubcarriers} hs (omega arith) in
+    let lb : natAbs slope * k ≤ slopeMost * maxSubcarriers = mul-le-mul {m₂ = maxSubcarriers} hs (omega arith) in
     let lc = abs-sub a b in let ld = abs-sub (a -ℤ b) icpt in
     record {
       scaled = sfits-abs a (omega arith);

@@ -2,6 +2,7 @@
 use mathlib.Core.Path.{_≡_, refl, sym, ap, _∙_}
 use mathlib.Core.List.{List, _∷_, _++_, append-nil}
 use Prim.Native.Nat.{ℕ, suc, _+_, _-_, _*_, _≤_, _<_}
+use native.Mathlib.Nat.{mul-le-mul}
 use native.Mathlib.Numerals.{add-one}
 use native.Mathlib.Omega.{arith}
 use lib.IntN.{ℤ, pos, natAbs, _+ℤ_, _-ℤ_, _*ℤ_, +ℤ-idl, +ℤ-idr, +ℤ-assoc}
@@ -10,7 +11,7 @@ use mir.Syntax.{w16, w64}
 use mir.Val.{SFits}
 use Rattle.num.specs.Sum.{sumZ}
 use Rattle.num.specs.Wrap.{wrap16}
-use Rattle.num.proofs.Abs.{sfits-abs, abs-sfits, abs-add, abs-mul, mul-le}
+use Rattle.num.proofs.Abs.{sfits-abs, abs-sfits, abs-add, abs-mul}
 use Rattle.num.proofs.Fill.{next, done, put, rest-set}
 use Rattle.num.proofs.Wrap.{wrap16-fits}
 use Rattle.csi.specs.Layout.{maxSubcarriers}
@@ -80,7 +81,7 @@ module _ {angles : List ℤ} {n : ℕ} {su sku at prev : ℤ} {k : ℕ} (w : Sum
   v-le = omega (arith, place-le (w .along) raw)
 
   term-le : natAbs (pos k *ℤ v) ≤ maxSubcarriers * (arc * n)
-  term-le = omega (arith, abs-mul (pos k) v, mul-le {a = k} {A = maxSubcarriers} (omega arith) v-le)
+  term-le = omega (arith, abs-mul (pos k) v, mul-le-mul {n₁ = k} {n₂ = maxSubcarriers} (omega arith) v-le)
 
   su-le : natAbs (su +ℤ v) ≤ arc * n * (k + 1)
   su-le = omega (arith, abs-add su v, w .su-small, v-le)
@@ -89,7 +90,7 @@ module _ {angles : List ℤ} {n : ℕ} {su sku at prev : ℤ} {k : ℕ} (w : Sum
   sku-le = omega (arith, abs-add sku (pos k *ℤ v), w .sku-small, term-le)
 
   room : n * (k + 1) ≤ maxSubcarriers * maxSubcarriers
-  room = mul-le {B = maxSubcarriers} l (omega arith)
+  room = mul-le-mul {m₂ = maxSubcarriers} l (omega arith)
 
   pub summed : Turn angles n su sku v raw k
   unfolding sumZ weighted walk
@@ -162,7 +163,7 @@ module _ {slope icpt : ℤ} {angles : List ℤ} {n : ℕ} {out : List ℤ} {at p
 
 pub sums-fit : {us : List ℤ} {n : ℕ} {su sku : ℤ} → n ≤ maxSubcarriers → SumsOf us n su sku → SFits w64 su × SFits w64 sku
 sums-fit {us} {n} {su} {sku} l s =
-    let q : n * n ≤ maxSubcarriers * maxSubcarriers = mul-le l l in
+    let q : n * n ≤ maxSubcarriers * maxSubcarriers = mul-le-mul l l in
     (sfits-abs su (omega (arith, s .su-small)), sfits-abs sku (omega (arith, s .sku-small)))
 
 pub put-together : (angles : List ℤ) (n : ℕ) (su sku slope icpt : ℤ) → length angles ≡ n → SumsOf (unwrapped angles) n su sku

@@ -1,5 +1,5 @@
 // Replays the recorded angles and phases: a line for each case. `stdout` holds what the Rust answered.
-ghost use Prim.Native.Nat.{_≤_, _<_};
+ghost use Prim.Native.Nat.{_<_};
 use cases::Case;
 use phase::Angles;
 use phase::MeasuredPhases;

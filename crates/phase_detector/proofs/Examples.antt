@@ -1,8 +1,7 @@
 -- Worked examples of the definitions. Assumes nothing.
 use mathlib.Core.Path.{_≡_, refl}
-use mathlib.Core.List.{List, [], _∷_}
-use Prim.Native.Nat.{ℕ}
-use lib.IntN.{ℤ, pos, negsuc}
+use mathlib.Core.List.{[], _∷_}
+use lib.IntN.{pos, negsuc}
 use Rattle.num.specs.Root.{root, rootIn}
 use Rattle.window.specs.Window.{column}
 use Rattle.window.specs.Sums.{totalBy, sumTo, windowMean}

@@ -1,7 +1,6 @@
 -- Worked examples of the definitions. Assumes nothing.
 use mathlib.Core.Path.{_≡_, refl}
-use mathlib.Core.List.{List, [], _∷_}
-use Prim.Native.Nat.{ℕ, _+_}
+use mathlib.Core.List.{[], _∷_}
 use Rattle.num.specs.Root.{root, rootIn}
 use Rattle.window.specs.Window.{column}
 use Rattle.window.specs.Sums.{totalBy, sumTo, windowMean}

@@ -1,13 +1,12 @@
 -- The range of a column's wander: a deviation is at most half the range of the entries, so that every product fits 64 bits. Assumes nothing.
 use mathlib.Core.Path.{_≡_, refl, sym, ap, _∙_}
-use Prim.Native.Nat.{ℕ, zero, suc, _+_, _-_, _*_, _/_, _≤_, _<_, _^_}
-use native.Mathlib.Nat.{le-trans, le-of-eq, lt-of-le-of-lt, mul-le-mul, mul-le-mul-left, mul-assoc, mul-comm, mul-left-comm, mul-add, add-mul, mul-mul-mul-comm, div-le-of-le-mul, div-le-self}
+use Prim.Native.Nat.{ℕ, zero, suc, _+_, _-_, _*_, _/_, _≤_, _<_}
+use native.Mathlib.Nat.{le-trans, le-of-eq, mul-le-mul, mul-le-mul-left, mul-assoc, mul-comm, mul-left-comm, add-mul, mul-mul-mul-comm, div-le-of-le-mul}
 use native.Mathlib.Omega.{arith}
-use Rattle.num.specs.Root.{root}
 use Rattle.num.proofs.Root.{root-below}
 use Rattle.num.proofs.Squares.{four-products}
 use Rattle.presence.specs.Wander.{ColumnRange}
-use Rattle.presence.specs.Wander.{against, columnWander, deviation16}
+use Rattle.presence.specs.Wander.{against, deviation16}
 
 module _ (w s q : ℕ) (range : ColumnRange w s q) where
   -- the square sum, w times: at most the sum times the largest sum

@@ -1,4 +1,3 @@
 pub mod Back
 pub mod Bytes
-pub mod Elements
 pub mod Whole

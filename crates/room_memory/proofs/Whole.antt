@@ -5,29 +5,27 @@
 --     flags-stored                    they are, in what was stored
 --     kept-settings, kept-rest        before and behind a state's bytes stands what was put there
 --     settings-stored, rest-stored    there `store` leaves all as it was
-use Prim.Native.Nat.{ℕ, zero, suc, _+_, _^_, _≤_, _<_}
+use Prim.Native.Nat.{ℕ, _+_, _*_, _^_, _≤_, _<_}
 use mathlib.Core.Path.{_≡_, refl, sym, ap, _∙_}
 use mathlib.Core.Bool.{Bool, true, false, _&&_}
 use mathlib.Core.List.{List, [], _∷_, _++_, map, append-assoc}
 use native.Mathlib.Omega.{arith}
 use lib.Dec.{leb}
-use lib.IntN.{ℤ, pos, negsuc}
-use lib.ListN.{length, getD, take, drop, length-append, length-drop, length-map, take-append-drop}
-use lib.Seq.{drop-drop, take-at, drop-at, getD-drop, length-take-le}
+use lib.IntN.{pos}
+use lib.ListN.{length, getD, take, drop, length-append, length-drop, take-append-drop}
+use lib.Seq.{take-at, drop-at, getD-drop, length-take-le}
 use mir.Syntax.{w32}
 use mir.Val.{SFits}
 use Rattle.num.specs.Words.{wordsIn, leAll}
-use Rattle.num.specs.Wrap.{signed32}
-use Rattle.num.proofs.Arrays.{length-wordsIn, words-back}
-use Rattle.num.proofs.Byte.{signed-word}
+use Rattle.num.specs.Wrap.{signed32, bits32}
+use Rattle.num.proofs.Fields.{here, behind, words-long, bits-long, words-here, signed-here, byte-same, words-same, signed-same}
 use Rattle.num.proofs.Logic.{both}
 use Rattle.window.specs.Window.{columns}
-use Rattle.room_memory.specs.Arrays.{bits32}
-use Rattle.room_memory.specs.Fields.{flag, presentAt, detectorAt, detectorBytes, progressAt, progressBytes, baselineAt, baselineBytes, fallAt, fallBytes}
-use Rattle.room_memory.specs.Header.{settingsLen, presenceAt, phaseAt, sumAt, sumsqAt, cosAt, sinAt, breathingAccAt, heartAccAt, headerLen, stateAt, smallBytes, columnBytes, stateBytes, Small, flags}
+use Rattle.room_memory.specs.Fields.{flag, detectorLen, progressLen, baselineLen, fallLen, presentAt, detectorIn, detectorBytes, progressIn, progressBytes, baselineIn, baselineBytes, fallIn, fallBytes}
+use Rattle.room_memory.specs.Header.{settingsLen, tagAt, presenceAt, phaseAt, breathingAt, heartAt, baselineAt, fallAt, sumAt, sumsqAt, cosAt, sinAt, breathingAccAt, heartAccAt, headerLen, stateLen, stateAt, smallBytes, columnBytes, stateBytes, Small, flags}
 use Rattle.room_memory.specs.declared.RoomState.{RoomState}
 use Rattle.room_memory.proofs.Back.{detector-back, progress-back, baseline-back, fall-back}
-use Rattle.room_memory.proofs.Bytes.{words-long, bits-long, one-same, detector-same, progress-same, baseline-same, fall-same, array-same, signed-array-same}
+use Rattle.room_memory.proofs.Bytes.{detector-same, progress-same, baseline-same, fall-same}
 
 -- ---- what the types of a state's fields give: a number a column, each within its bits
 pub record Full (s : RoomState) : Type 0 where
@@ -54,52 +52,16 @@ pub record Ranged (s : RoomState) : Type 0 where
   pub breathing : (j : ℕ) → getD (s .«breathing_acc») j 0 < 2 ^ 32
   pub heart : (j : ℕ) → getD (s .«heart_acc») j 0 < 2 ^ 32
 
--- ---- signed numbers and their bits
-bits-below : (z : ℤ) → bits32 z < 4294967296
-bits-below (pos n) = omega arith
-bits-below (negsuc n) = omega arith
-
-bits-range : (zs : List ℤ) (j : ℕ) → getD (map bits32 zs) j 0 < 256 ^ 4
-bits-range [] j = omega arith
-bits-range (z ∷ zs) zero = bits-below z
-bits-range (z ∷ zs) (suc j) = bits-range zs j
-
-signed-back : (zs : List ℤ) → ((j : ℕ) → SFits w32 (getD zs j (pos 0))) → map signed32 (map bits32 zs) ≡ zs
-signed-back [] f = refl
-signed-back (z ∷ zs) f =
-    let e : signed32 (bits32 z) ≡ z = signed-word z (f 0) in
-    let i : map signed32 (map bits32 zs) ≡ zs = signed-back zs (λ j. f (suc j)) in
-    rw (e, i)
-
--- ---- parts that stand in a row
--- x stands at a in m: what is read there is what is read of x behind anything
-here : {A : Type 0} (read : List ℕ → ℕ → A) (m x : List ℕ) (a : ℕ) (v : A) → a ≤ length m → drop a m ≡ x → ((q : List ℕ) → read (q ++ x) (length q) ≡ v) → read m a ≡ v
-here read m x a v h e f =
-    let l : length (take a m) ≡ a = length-take-le a m h in
-    let w : m ≡ take a m ++ x = sym (take-append-drop a m) ∙ ap (λ (y : List ℕ). take a m ++ y) e in
-    ap (λ (y : List ℕ). read y a) w ∙ ap (λ (n : ℕ). read (take a m ++ x) n) (sym l) ∙ f (take a m)
-
--- t stands at a, and rest behind it
-behind : (a n : ℕ) (m t rest : List ℕ) → length t ≡ n → drop a m ≡ t ++ rest → drop (a + n) m ≡ rest
-behind a n m t rest l e = sym (drop-drop n a m) ∙ rw e (drop-at t rest n l)
-
-words-here : (k a : ℕ) (m xs rest : List ℕ) → length xs ≡ columns → ((j : ℕ) → getD xs j 0 < 256 ^ k) → drop a m ≡ leAll k xs ++ rest → wordsIn k columns (drop a m) ≡ xs
-words-here k a m xs rest l f e = ap (λ (n : ℕ). wordsIn k n (drop a m)) (sym l) ∙ rw e (words-back k xs rest f)
-
-signed-here : (a : ℕ) (m : List ℕ) (zs : List ℤ) (rest : List ℕ) → length zs ≡ columns → ((j : ℕ) → SFits w32 (getD zs j (pos 0))) → drop a m ≡ leAll 4 (map bits32 zs) ++ rest
-    → map signed32 (wordsIn 4 columns (drop a m)) ≡ zs
-signed-here a m zs rest l f e = rw (words-here 4 a m (map bits32 zs) rest (length-map zs bits32 ∙ l) (bits-range zs) e) (signed-back zs f)
-
 -- how many bytes a state is: with the settings, the header
-pub state-long : (s : RoomState) → Full s → length (stateBytes s) ≡ 1876
+pub state-long : (s : RoomState) → Full s → length (stateBytes s) ≡ stateLen
 unfolding stateBytes
 state-long s f =
-    let l₁ = words-long 4 (s .«presence_sums» .sum) (f .sum) in
-    let l₂ = words-long 8 (s .«presence_sums» .sumsq) (f .sumsq) in
-    let l₃ = bits-long (s .«phase_sums» .cos) (f .cos) in
-    let l₄ = bits-long (s .«phase_sums» .sin) (f .sin) in
-    let l₅ = words-long 4 (s .«breathing_acc») (f .breathing) in
-    let l₆ = words-long 4 (s .«heart_acc») (f .heart) in
+    let l₁ = words-long 4 columns (s .«presence_sums» .sum) (f .sum) in
+    let l₂ = words-long 8 columns (s .«presence_sums» .sumsq) (f .sumsq) in
+    let l₃ = bits-long columns (s .«phase_sums» .cos) (f .cos) in
+    let l₄ = bits-long columns (s .«phase_sums» .sin) (f .sin) in
+    let l₅ = words-long 4 columns (s .«breathing_acc») (f .breathing) in
+    let l₆ = words-long 4 columns (s .«heart_acc») (f .heart) in
     length-append (smallBytes s) (columnBytes (s .«presence_sums») (s .«phase_sums») (s .«breathing_acc») (s .«heart_acc»)) ∙ simp length-append (rw (l₁, l₂, l₃, l₄, l₅, l₆) refl)
 
 -- the parts of what stands behind the settings
@@ -154,57 +116,57 @@ module _ (m rest : List ℕ) (s : RoomState) (room : headerLen ≤ length m) (st
       (flat (leAll 4 (s .«presence_sums» .sum)) (leAll 8 (s .«presence_sums» .sumsq)) (leAll 4 (map bits32 (s .«phase_sums» .cos))) (leAll 4 (map bits32 (s .«phase_sums» .sin))) (leAll 4 (s .«breathing_acc»)) (leAll 4 (s .«heart_acc»)) rest)
 
   at-presence : drop presenceAt m ≡ presenceOn
-  at-presence = behind settingsLen 1 m (s .tag ∷ []) presenceOn refl at-tag
+  at-presence = behind tagAt 1 m (s .tag ∷ []) presenceOn refl at-tag
 
   at-phase : drop phaseAt m ≡ phaseOn
-  at-phase = behind presenceAt 18 m (detectorBytes (s .presence)) phaseOn refl at-presence
+  at-phase = behind presenceAt detectorLen m (detectorBytes (s .presence)) phaseOn refl at-presence
 
-  at-breathing : drop 155 m ≡ breathingOn
-  at-breathing = behind phaseAt 18 m (detectorBytes (s .phase)) breathingOn refl at-phase
+  at-breathing : drop breathingAt m ≡ breathingOn
+  at-breathing = behind phaseAt detectorLen m (detectorBytes (s .phase)) breathingOn refl at-phase
 
-  at-heart : drop 164 m ≡ heartOn
-  at-heart = behind 155 9 m (progressBytes (s .breathing)) heartOn refl at-breathing
+  at-heart : drop heartAt m ≡ heartOn
+  at-heart = behind breathingAt progressLen m (progressBytes (s .breathing)) heartOn refl at-breathing
 
-  at-baseline : drop 173 m ≡ baselineOn
-  at-baseline = behind 164 9 m (progressBytes (s .heart)) baselineOn refl at-heart
+  at-baseline : drop baselineAt m ≡ baselineOn
+  at-baseline = behind heartAt progressLen m (progressBytes (s .heart)) baselineOn refl at-heart
 
-  at-fall : drop 183 m ≡ fallOn
-  at-fall = behind 173 10 m (baselineBytes (s .baseline)) fallOn refl at-baseline
+  at-fall : drop fallAt m ≡ fallOn
+  at-fall = behind baselineAt baselineLen m (baselineBytes (s .baseline)) fallOn refl at-baseline
 
   at-sum : drop sumAt m ≡ sumBytes
-  at-sum = behind 183 19 m (fallBytes (s .fall)) sumBytes refl at-fall
+  at-sum = behind fallAt fallLen m (fallBytes (s .fall)) sumBytes refl at-fall
 
   at-sumsq : drop sumsqAt m ≡ sumsqBytes
-  at-sumsq = behind sumAt 256 m (leAll 4 (s .«presence_sums» .sum)) sumsqBytes (words-long 4 (s .«presence_sums» .sum) (full .sum)) at-sum
+  at-sumsq = behind sumAt (4 * columns) m (leAll 4 (s .«presence_sums» .sum)) sumsqBytes (words-long 4 columns (s .«presence_sums» .sum) (full .sum)) at-sum
 
   at-cos : drop cosAt m ≡ cosBytes
-  at-cos = behind sumsqAt 512 m (leAll 8 (s .«presence_sums» .sumsq)) cosBytes (words-long 8 (s .«presence_sums» .sumsq) (full .sumsq)) at-sumsq
+  at-cos = behind sumsqAt (8 * columns) m (leAll 8 (s .«presence_sums» .sumsq)) cosBytes (words-long 8 columns (s .«presence_sums» .sumsq) (full .sumsq)) at-sumsq
 
   at-sin : drop sinAt m ≡ sinBytes
-  at-sin = behind cosAt 256 m (leAll 4 (map bits32 (s .«phase_sums» .cos))) sinBytes (bits-long (s .«phase_sums» .cos) (full .cos)) at-cos
+  at-sin = behind cosAt (4 * columns) m (leAll 4 (map bits32 (s .«phase_sums» .cos))) sinBytes (bits-long columns (s .«phase_sums» .cos) (full .cos)) at-cos
 
   at-breathing-acc : drop breathingAccAt m ≡ breathingBytes
-  at-breathing-acc = behind sinAt 256 m (leAll 4 (map bits32 (s .«phase_sums» .sin))) breathingBytes (bits-long (s .«phase_sums» .sin) (full .sin)) at-sin
+  at-breathing-acc = behind sinAt (4 * columns) m (leAll 4 (map bits32 (s .«phase_sums» .sin))) breathingBytes (bits-long columns (s .«phase_sums» .sin) (full .sin)) at-sin
 
   at-heart-acc : drop heartAccAt m ≡ heartBytes
-  at-heart-acc = behind breathingAccAt 256 m (leAll 4 (s .«breathing_acc»)) heartBytes (words-long 4 (s .«breathing_acc») (full .breathing)) at-breathing-acc
+  at-heart-acc = behind breathingAccAt (4 * columns) m (leAll 4 (s .«breathing_acc»)) heartBytes (words-long 4 columns (s .«breathing_acc») (full .breathing)) at-breathing-acc
 
   pub load-stored : Small s → Ranged s → stateAt m ≡ s
   unfolding stateAt
   load-stored n r =
-      let tag : getD m 118 0 ≡ s .tag = sym (getD-drop settingsLen m 0 0) ∙ ap (λ (l : List ℕ). getD l 0 0) at-tag in
-      let presence : detectorAt m presenceAt ≡ s .presence = here detectorAt m presenceOn presenceAt (s .presence) (omega (arith, room)) at-presence (λ q. detector-back q phaseOn (s .presence) (n .presence-count) (n .presence-filled) (n .presence-next) (r .presence-wander) (r .presence-motion)) in
-      let phase : detectorAt m phaseAt ≡ s .phase = here detectorAt m phaseOn phaseAt (s .phase) (omega (arith, room)) at-phase (λ q. detector-back q breathingOn (s .phase) (n .phase-count) (n .phase-filled) (n .phase-next) (r .phase-wander) (r .phase-motion)) in
-      let breathing : progressAt m 155 ≡ s .breathing = here progressAt m breathingOn 155 (s .breathing) (omega (arith, room)) at-breathing (λ q. progress-back q heartOn (s .breathing) (n .breathing-count) (n .breathing-filled) (n .breathing-next) (n .breathing-acc) (n .breathing-since)) in
-      let heart : progressAt m 164 ≡ s .heart = here progressAt m heartOn 164 (s .heart) (omega (arith, room)) at-heart (λ q. progress-back q baselineOn (s .heart) (n .heart-count) (n .heart-filled) (n .heart-next) (n .heart-acc) (n .heart-since)) in
-      let baseline : baselineAt m 173 ≡ s .baseline = here baselineAt m baselineOn 173 (s .baseline) (omega (arith, room)) at-baseline (λ q. baseline-back q fallOn (s .baseline) (r .baseline-sum) (n .baseline-frames)) in
-      let fall : fallAt m 183 ≡ s .fall = here fallAt m fallOn 183 (s .fall) (omega (arith, room)) at-fall (λ q. fall-back q sumBytes (s .fall) (r .peak) (r .a) (r .b)) in
-      let sum : wordsIn 4 columns (drop sumAt m) ≡ s .«presence_sums» .sum = words-here 4 sumAt m (s .«presence_sums» .sum) sumsqBytes (full .sum) (r .sum) at-sum in
-      let sumsq : wordsIn 8 columns (drop sumsqAt m) ≡ s .«presence_sums» .sumsq = words-here 8 sumsqAt m (s .«presence_sums» .sumsq) cosBytes (full .sumsq) (r .sumsq) at-sumsq in
-      let cos : map signed32 (wordsIn 4 columns (drop cosAt m)) ≡ s .«phase_sums» .cos = signed-here cosAt m (s .«phase_sums» .cos) sinBytes (full .cos) (r .cos) at-cos in
-      let sin : map signed32 (wordsIn 4 columns (drop sinAt m)) ≡ s .«phase_sums» .sin = signed-here sinAt m (s .«phase_sums» .sin) breathingBytes (full .sin) (r .sin) at-sin in
-      let breathing-acc : wordsIn 4 columns (drop breathingAccAt m) ≡ s .«breathing_acc» = words-here 4 breathingAccAt m (s .«breathing_acc») heartBytes (full .breathing) (r .breathing) at-breathing-acc in
-      let heart-acc : wordsIn 4 columns (drop heartAccAt m) ≡ s .«heart_acc» = words-here 4 heartAccAt m (s .«heart_acc») rest (full .heart) (r .heart) at-heart-acc in
+      let tag : getD m tagAt 0 ≡ s .tag = sym (getD-drop settingsLen m 0 0) ∙ ap (λ (l : List ℕ). getD l 0 0) at-tag in
+      let presence : detectorIn m presenceAt ≡ s .presence = here detectorIn m presenceOn presenceAt (s .presence) (omega (arith, room)) at-presence (λ q. detector-back q phaseOn (s .presence) (n .presence-count) (n .presence-filled) (n .presence-next) (r .presence-wander) (r .presence-motion)) in
+      let phase : detectorIn m phaseAt ≡ s .phase = here detectorIn m phaseOn phaseAt (s .phase) (omega (arith, room)) at-phase (λ q. detector-back q breathingOn (s .phase) (n .phase-count) (n .phase-filled) (n .phase-next) (r .phase-wander) (r .phase-motion)) in
+      let breathing : progressIn m breathingAt ≡ s .breathing = here progressIn m breathingOn breathingAt (s .breathing) (omega (arith, room)) at-breathing (λ q. progress-back q heartOn (s .breathing) (n .breathing-count) (n .breathing-filled) (n .breathing-next) (n .breathing-acc) (n .breathing-since)) in
+      let heart : progressIn m heartAt ≡ s .heart = here progressIn m heartOn heartAt (s .heart) (omega (arith, room)) at-heart (λ q. progress-back q baselineOn (s .heart) (n .heart-count) (n .heart-filled) (n .heart-next) (n .heart-acc) (n .heart-since)) in
+      let baseline : baselineIn m baselineAt ≡ s .baseline = here baselineIn m baselineOn baselineAt (s .baseline) (omega (arith, room)) at-baseline (λ q. baseline-back q fallOn (s .baseline) (r .baseline-sum) (n .baseline-frames)) in
+      let fall : fallIn m fallAt ≡ s .fall = here fallIn m fallOn fallAt (s .fall) (omega (arith, room)) at-fall (λ q. fall-back q sumBytes (s .fall) (r .peak) (r .a) (r .b)) in
+      let sum : wordsIn 4 columns (drop sumAt m) ≡ s .«presence_sums» .sum = words-here 4 columns sumAt m (s .«presence_sums» .sum) sumsqBytes (full .sum) (r .sum) at-sum in
+      let sumsq : wordsIn 8 columns (drop sumsqAt m) ≡ s .«presence_sums» .sumsq = words-here 8 columns sumsqAt m (s .«presence_sums» .sumsq) cosBytes (full .sumsq) (r .sumsq) at-sumsq in
+      let cos : map signed32 (wordsIn 4 columns (drop cosAt m)) ≡ s .«phase_sums» .cos = signed-here columns cosAt m (s .«phase_sums» .cos) sinBytes (full .cos) (r .cos) at-cos in
+      let sin : map signed32 (wordsIn 4 columns (drop sinAt m)) ≡ s .«phase_sums» .sin = signed-here columns sinAt m (s .«phase_sums» .sin) breathingBytes (full .sin) (r .sin) at-sin in
+      let breathing-acc : wordsIn 4 columns (drop breathingAccAt m) ≡ s .«breathing_acc» = words-here 4 columns breathingAccAt m (s .«breathing_acc») heartBytes (full .breathing) (r .breathing) at-breathing-acc in
+      let heart-acc : wordsIn 4 columns (drop heartAccAt m) ≡ s .«heart_acc» = words-here 4 columns heartAccAt m (s .«heart_acc») rest (full .heart) (r .heart) at-heart-acc in
       λ i. record {
         tag = tag i;
         presence = presence i;
@@ -232,16 +194,16 @@ module _ (p rest : List ℕ) (s : RoomState) (long : length p ≡ settingsLen) w
   pub kept-settings : take settingsLen (p ++ (stateBytes s ++ rest)) ≡ p
   kept-settings = take-at p (stateBytes s ++ rest) settingsLen long
 
-  pub kept-rest : length (stateBytes s) ≡ 1876 → drop headerLen (p ++ (stateBytes s ++ rest)) ≡ rest
+  pub kept-rest : length (stateBytes s) ≡ stateLen → drop headerLen (p ++ (stateBytes s ++ rest)) ≡ rest
   kept-rest l =
-      behind settingsLen 1876 (p ++ (stateBytes s ++ rest)) (stateBytes s) rest l (drop-at p (stateBytes s ++ rest) settingsLen long)
+      behind settingsLen stateLen (p ++ (stateBytes s ++ rest)) (stateBytes s) rest l (drop-at p (stateBytes s ++ rest) settingsLen long)
 
 -- a memory m that `store` left as o, which is as long as it was
 module _ (m o : List ℕ) (s : RoomState) (room : headerLen ≤ length m) (same : length o ≡ length m) (stored : o ≡ take settingsLen m ++ (stateBytes s ++ drop headerLen m)) where
   settings-long : length (take settingsLen m) ≡ settingsLen
   settings-long = length-take-le settingsLen m (omega (arith, room))
 
-  pub long-stored : length (stateBytes s) ≡ 1876
+  pub long-stored : length (stateBytes s) ≡ stateLen
   long-stored =
       omega (arith, room, same, ap length stored, settings-long, length-append (take settingsLen m) (stateBytes s ++ drop headerLen m), length-append (stateBytes s) (drop headerLen m), length-drop headerLen m)
 
@@ -251,31 +213,18 @@ module _ (m o : List ℕ) (s : RoomState) (room : headerLen ≤ length m) (same 
   pub rest-stored : drop headerLen o ≡ drop headerLen m
   rest-stored = rw stored (kept-rest (take settingsLen m) (drop headerLen m) s settings-long long-stored)
 
--- what is loaded has a number a column
-pub full-loaded : (m : List ℕ) → Full (stateAt m)
-unfolding stateAt
-full-loaded m =
-    record {
-      sum = length-wordsIn 4 columns (drop sumAt m);
-      sumsq = length-wordsIn 8 columns (drop sumsqAt m);
-      cos = length-map (wordsIn 4 columns (drop cosAt m)) signed32 ∙ length-wordsIn 4 columns (drop cosAt m);
-      sin = length-map (wordsIn 4 columns (drop sinAt m)) signed32 ∙ length-wordsIn 4 columns (drop sinAt m);
-      breathing = length-wordsIn 4 columns (drop breathingAccAt m);
-      heart = length-wordsIn 4 columns (drop heartAccAt m);
-    }
-
 -- ---- storing what was loaded gives the same bytes
 module _ (m : List ℕ) (room : headerLen ≤ length m) (bytes : (i : ℕ) → getD m i 0 < 256) where
   columns-same : (rest : List ℕ) → rest ≡ drop headerLen m
       → columnBytes (stateAt m .«presence_sums») (stateAt m .«phase_sums») (stateAt m .«breathing_acc») (stateAt m .«heart_acc») ++ rest ≡ drop sumAt m
   unfolding stateAt
   columns-same rest d =
-      let e₆ = array-same m bytes 4 heartAccAt rest (omega (arith, room)) d in
-      let e₅ = array-same m bytes 4 breathingAccAt _ (omega (arith, room)) e₆ in
-      let e₄ = signed-array-same m bytes sinAt _ (omega (arith, room)) e₅ in
-      let e₃ = signed-array-same m bytes cosAt _ (omega (arith, room)) e₄ in
-      let e₂ = array-same m bytes 8 sumsqAt _ (omega (arith, room)) e₃ in
-      let e₁ = array-same m bytes 4 sumAt _ (omega (arith, room)) e₂ in
+      let e₆ = words-same m bytes 4 columns heartAccAt rest (omega (arith, room)) d in
+      let e₅ = words-same m bytes 4 columns breathingAccAt _ (omega (arith, room)) e₆ in
+      let e₄ = signed-same m bytes columns sinAt _ (omega (arith, room)) e₅ in
+      let e₃ = signed-same m bytes columns cosAt _ (omega (arith, room)) e₄ in
+      let e₂ = words-same m bytes 8 columns sumsqAt _ (omega (arith, room)) e₃ in
+      let e₁ = words-same m bytes 4 columns sumAt _ (omega (arith, room)) e₂ in
       flat (leAll 4 (wordsIn 4 columns (drop sumAt m))) (leAll 8 (wordsIn 8 columns (drop sumsqAt m))) (leAll 4 (map bits32 (map signed32 (wordsIn 4 columns (drop cosAt m)))))
       (leAll 4 (map bits32 (map signed32 (wordsIn 4 columns (drop sinAt m))))) (leAll 4 (wordsIn 4 columns (drop breathingAccAt m))) (leAll 4 (wordsIn 4 columns (drop heartAccAt m))) rest
       ∙ e₁
@@ -284,13 +233,13 @@ module _ (m : List ℕ) (room : headerLen ≤ length m) (bytes : (i : ℕ) → g
   unfolding stateAt flags
   small-same rest f d =
       let g = both (leb (getD m (presenceAt + presentAt) 0) 1) (leb (getD m (phaseAt + presentAt) 0) 1) f in
-      let e₆ = fall-same m bytes 183 rest (omega (arith, room)) d in
-      let e₅ = baseline-same m bytes 173 _ (omega (arith, room)) e₆ in
-      let e₄ = progress-same m bytes 164 _ (omega (arith, room)) e₅ in
-      let e₃ = progress-same m bytes 155 _ (omega (arith, room)) e₄ in
+      let e₆ = fall-same m bytes fallAt rest (omega (arith, room)) d in
+      let e₅ = baseline-same m bytes baselineAt _ (omega (arith, room)) e₆ in
+      let e₄ = progress-same m bytes heartAt _ (omega (arith, room)) e₅ in
+      let e₃ = progress-same m bytes breathingAt _ (omega (arith, room)) e₄ in
       let e₂ = detector-same m bytes phaseAt _ (omega (arith, room)) (g .1) e₃ in
       let e₁ = detector-same m bytes presenceAt _ (omega (arith, room)) (g .0) e₂ in
-      one-same m bytes settingsLen presenceAt (getD m 118 0) _ refl (omega (arith, room)) refl e₁
+      byte-same m bytes tagAt presenceAt (getD m tagAt 0) _ refl (omega (arith, room)) refl e₁
 
   pub stored-same : flags m ≡ true → take settingsLen m ++ (stateBytes (stateAt m) ++ drop headerLen m) ≡ m
   unfolding stateBytes

@@ -30,8 +30,8 @@ detectorBytes s =
     (s .count % 256)
     ∷ leBytes 2 (s .filled) ++ (leBytes 2 (s .next) ++ (leBytes 4 (s .wander) ++ (flag (s .present) ∷ leBytes 8 (s .«last_motion»))))
 
-abbrev pub detectorAt : List ℕ → ℕ → State
-detectorAt m a =
+abbrev pub detectorIn : List ℕ → ℕ → State
+detectorIn m a =
     record {
       count = getD m a 0;
       filled = leAt m (a + 1) 2;
@@ -49,8 +49,8 @@ abbrev pub progressBytes : Progress → List ℕ
 progressBytes s =
     (s .count % 256) ∷ leBytes 2 (s .filled) ++ (leBytes 2 (s .next) ++ (leBytes 2 (s .«acc_n») ++ leBytes 2 (s .«since_update»)))
 
-abbrev pub progressAt : List ℕ → ℕ → Progress
-progressAt m a =
+abbrev pub progressIn : List ℕ → ℕ → Progress
+progressIn m a =
     record {
       count = getD m a 0;
       filled = leAt m (a + 1) 2;
@@ -66,8 +66,8 @@ baselineLen = 10
 abbrev pub baselineBytes : Baseline → List ℕ
 baselineBytes b = leBytes 8 (b .sum) ++ leBytes 2 (b .frames)
 
-abbrev pub baselineAt : List ℕ → ℕ → Baseline
-baselineAt m a = record { sum = leAt m a 8; frames = leAt m (a + 8) 2 }
+abbrev pub baselineIn : List ℕ → ℕ → Baseline
+baselineIn m a = record { sum = leAt m a 8; frames = leAt m (a + 8) 2 }
 
 -- ---- the fall machine: tag, peak, two times
 abbrev pub fallLen : ℕ
@@ -76,5 +76,5 @@ fallLen = 19
 abbrev pub fallBytes : Words → List ℕ
 fallBytes w = w .tag ∷ leBytes 2 (w .peak) ++ (leBytes 8 (w .a) ++ leBytes 8 (w .b))
 
-abbrev pub fallAt : List ℕ → ℕ → Words
-fallAt m a = record { tag = getD m a 0; peak = leAt m (a + 1) 2; a = leAt m (a + 3) 8; b = leAt m (a + 11) 8 }
+abbrev pub fallIn : List ℕ → ℕ → Words
+fallIn m a = record { tag = getD m a 0; peak = leAt m (a + 1) 2; a = leAt m (a + 3) 8; b = leAt m (a + 11) 8 }

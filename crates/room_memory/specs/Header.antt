@@ -1,30 +1,45 @@
 -- The header of the unit's memory: the settings as they were given, the last accepted tag (0: none), the small states, then one number a column.
 -- Behind it stand the four rings' rows (docs/LAYOUT.md). Assumes nothing.
-use Prim.Native.Nat.{ℕ, _+_, _*_, _<_}
+use Prim.Native.Nat.{ℕ, _+_, _-_, _*_, _<_}
 use mathlib.Core.Bool.{Bool, _&&_}
 use mathlib.Core.List.{List, _∷_, _++_, map}
 use lib.Dec.{leb}
 use lib.ListN.{getD, drop}
 use Rattle.num.specs.Words.{wordsIn, leAll}
-use Rattle.num.specs.Wrap.{signed32}
+use Rattle.num.specs.Wrap.{signed32, bits32}
 use Rattle.window.specs.Window.{columns}
-use Rattle.room_memory.specs.Arrays.{bits32}
-use Rattle.room_memory.specs.Fields.{presentAt, detectorAt, detectorBytes, progressAt, progressBytes, baselineAt, baselineBytes, fallAt, fallBytes}
+use Rattle.room_memory.specs.Fields.{detectorLen, progressLen, baselineLen, fallLen, presentAt, detectorIn, detectorBytes, progressIn, progressBytes, baselineIn, baselineBytes, fallIn, fallBytes}
 use Rattle.presence.specs.declared.Sums.{Sums as Amplitudes}
 use Rattle.phase_detector.specs.declared.Sums.{Sums as Angles}
 use Rattle.room_memory.specs.declared.RoomState.{RoomState}
 
+-- where each part stands: behind the one before it
 abbrev pub settingsLen : ℕ
 settingsLen = 118
 
+abbrev pub tagAt : ℕ
+tagAt = settingsLen
+
 abbrev pub presenceAt : ℕ
-presenceAt = 119
+presenceAt = tagAt + 1
 
 abbrev pub phaseAt : ℕ
-phaseAt = 137
+phaseAt = presenceAt + detectorLen
+
+abbrev pub breathingAt : ℕ
+breathingAt = phaseAt + detectorLen
+
+abbrev pub heartAt : ℕ
+heartAt = breathingAt + progressLen
+
+abbrev pub baselineAt : ℕ
+baselineAt = heartAt + progressLen
+
+abbrev pub fallAt : ℕ
+fallAt = baselineAt + baselineLen
 
 abbrev pub sumAt : ℕ
-sumAt = 202
+sumAt = fallAt + fallLen
 
 abbrev pub sumsqAt : ℕ
 sumsqAt = sumAt + 4 * columns
@@ -44,21 +59,25 @@ heartAccAt = breathingAccAt + 4 * columns
 abbrev pub headerLen : ℕ
 headerLen = heartAccAt + 4 * columns
 
+-- the header without the settings
+abbrev pub stateLen : ℕ
+stateLen = headerLen - settingsLen
+
 -- what the header holds
 unfoldable pub stateAt : List ℕ → RoomState
 stateAt m =
     record {
-      tag = getD m 118 0;
-      presence = detectorAt m presenceAt;
+      tag = getD m tagAt 0;
+      presence = detectorIn m presenceAt;
       «presence_sums» = record { sum = wordsIn 4 columns (drop sumAt m); sumsq = wordsIn 8 columns (drop sumsqAt m) };
-      phase = detectorAt m phaseAt;
+      phase = detectorIn m phaseAt;
       «phase_sums» = record { cos = map signed32 (wordsIn 4 columns (drop cosAt m)); sin = map signed32 (wordsIn 4 columns (drop sinAt m)) };
-      breathing = progressAt m 155;
+      breathing = progressIn m breathingAt;
       «breathing_acc» = wordsIn 4 columns (drop breathingAccAt m);
-      heart = progressAt m 164;
+      heart = progressIn m heartAt;
       «heart_acc» = wordsIn 4 columns (drop heartAccAt m);
-      baseline = baselineAt m 173;
-      fall = fallAt m 183;
+      baseline = baselineIn m baselineAt;
+      fall = fallIn m fallAt;
     }
 
 -- the small states as bytes

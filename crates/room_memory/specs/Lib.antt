@@ -1,3 +1,2 @@
-pub mod Arrays
 pub mod Fields
 pub mod Header

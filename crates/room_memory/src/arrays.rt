@@ -5,8 +5,7 @@ ghost use Prim.Native.Nat.{_+_, _*_, _≤_};
 ghost use lib.ListN.{length, take, drop};
 ghost use Rattle.window.specs.Window.{columns};
 ghost use Rattle.num.specs.Words.{wordsIn, leAll};
-ghost use Rattle.num.specs.Wrap.{signed32};
-ghost use Rattle.room_memory.specs.Arrays.{bits32};
+ghost use Rattle.num.specs.Wrap.{signed32, bits32};
 use window::COLUMNS;
 
 pub(crate) fn u32s_at(m: &[u8], at: usize) -> [u32; COLUMNS]

@@ -2,8 +2,8 @@
 ghost use mathlib.Core.Path.{_≡_};
 ghost use mathlib.Core.List.{[], _∷_};
 ghost use Prim.Native.Nat.{_+_, _≤_};
-ghost use lib.ListN.{length, take, drop};
-ghost use Rattle.room_memory.specs.Fields.{flag, detectorLen, detectorAt, detectorBytes, progressLen, progressAt, progressBytes, baselineLen, baselineAt, baselineBytes, fallLen, fallAt, fallBytes, pastedAt};
+ghost use lib.ListN.{length};
+ghost use Rattle.room_memory.specs.Fields.{flag, detectorLen, detectorIn, detectorBytes, progressLen, progressIn, progressBytes, baselineLen, baselineIn, baselineBytes, fallLen, fallIn, fallBytes, pastedAt};
 use detector::State;
 use estimator::Progress;
 use fall_words::Words;
@@ -37,9 +37,9 @@ pub(crate) fn put_byte(m: &mut [u8], at: usize, b: u8)
 
 // ---- presence and phase: count, filled, next, wander, present, last motion
 
-pub(crate) fn detector_at(m: &[u8], at: usize) -> State
+pub(crate) fn detector_in(m: &[u8], at: usize) -> State
     requires { ⌜ at + detectorLen ≤ length (now m) ⌝ }
-    ensures { λ r. ⌜ r ≡ detectorAt (now (m .entry)) at ⌝ }
+    ensures { λ r. ⌜ r ≡ detectorIn (now (m .entry)) at ⌝ }
 {
     State {
         count: wide(m[at]),
@@ -51,7 +51,7 @@ pub(crate) fn detector_at(m: &[u8], at: usize) -> State
     }
 }
 
-fn detector_bytes(s: State) -> [u8; 18]
+fn detector_bytes(s: State) -> [u8; crate::DETECTOR_LEN]
     ensures { λ r. ⌜ r ≡ detectorBytes s ⌝ }
 {
     let w = u32_bytes(s.wander);
@@ -88,9 +88,9 @@ pub(crate) fn put_detector(m: &mut [u8], at: usize, s: State)
 
 // ---- breathing and heart without the totals: count, filled, next, frames in the open block, blocks since the last estimate
 
-pub(crate) fn progress_at(m: &[u8], at: usize) -> Progress
+pub(crate) fn progress_in(m: &[u8], at: usize) -> Progress
     requires { ⌜ at + progressLen ≤ length (now m) ⌝ }
-    ensures { λ r. ⌜ r ≡ progressAt (now (m .entry)) at ⌝ }
+    ensures { λ r. ⌜ r ≡ progressIn (now (m .entry)) at ⌝ }
 {
     Progress {
         count: wide(m[at]),
@@ -101,7 +101,7 @@ pub(crate) fn progress_at(m: &[u8], at: usize) -> Progress
     }
 }
 
-fn progress_bytes(s: Progress) -> [u8; 9]
+fn progress_bytes(s: Progress) -> [u8; crate::PROGRESS_LEN]
     ensures { λ r. ⌜ r ≡ progressBytes s ⌝ }
 {
     [
@@ -127,9 +127,9 @@ pub(crate) fn put_progress(m: &mut [u8], at: usize, s: Progress)
 
 // ---- the baseline: sum, frames
 
-pub(crate) fn baseline_at(m: &[u8], at: usize) -> Baseline
+pub(crate) fn baseline_in(m: &[u8], at: usize) -> Baseline
     requires { ⌜ at + baselineLen ≤ length (now m) ⌝ }
-    ensures { λ r. ⌜ r ≡ baselineAt (now (m .entry)) at ⌝ }
+    ensures { λ r. ⌜ r ≡ baselineIn (now (m .entry)) at ⌝ }
 {
     Baseline {
         sum: u64_at(m, at),
@@ -137,7 +137,7 @@ pub(crate) fn baseline_at(m: &[u8], at: usize) -> Baseline
     }
 }
 
-fn baseline_bytes(b: Baseline) -> [u8; 10]
+fn baseline_bytes(b: Baseline) -> [u8; crate::BASELINE_LEN]
     ensures { λ r. ⌜ r ≡ baselineBytes b ⌝ }
 {
     let t = u64_bytes(b.sum);
@@ -165,9 +165,9 @@ pub(crate) fn put_baseline(m: &mut [u8], at: usize, b: Baseline)
 
 // ---- the fall machine: tag, peak, two times
 
-pub(crate) fn fall_at(m: &[u8], at: usize) -> Words
+pub(crate) fn fall_in(m: &[u8], at: usize) -> Words
     requires { ⌜ at + fallLen ≤ length (now m) ⌝ }
-    ensures { λ r. ⌜ r ≡ fallAt (now (m .entry)) at ⌝ }
+    ensures { λ r. ⌜ r ≡ fallIn (now (m .entry)) at ⌝ }
 {
     Words {
         tag: m[at],
@@ -177,7 +177,7 @@ pub(crate) fn fall_at(m: &[u8], at: usize) -> Words
     }
 }
 
-fn fall_bytes(w: Words) -> [u8; 19]
+fn fall_bytes(w: Words) -> [u8; crate::FALL_LEN]
     ensures { λ r. ⌜ r ≡ fallBytes w ⌝ }
 {
     let p = u16_bytes(w.peak);

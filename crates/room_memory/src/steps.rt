@@ -22,16 +22,16 @@ pub fn load(m: &[u8]) -> RoomState
     };
     RoomState {
         tag: m[crate::TAG_AT],
-        presence: crate::fields::detector_at(m, crate::PRESENCE_AT),
+        presence: crate::fields::detector_in(m, crate::PRESENCE_AT),
         presence_sums,
-        phase: crate::fields::detector_at(m, crate::PHASE_AT),
+        phase: crate::fields::detector_in(m, crate::PHASE_AT),
         phase_sums,
-        breathing: crate::fields::progress_at(m, crate::BREATHING_AT),
+        breathing: crate::fields::progress_in(m, crate::BREATHING_AT),
         breathing_acc: crate::arrays::u32s_at(m, crate::BREATHING_ACC_AT),
-        heart: crate::fields::progress_at(m, crate::HEART_AT),
+        heart: crate::fields::progress_in(m, crate::HEART_AT),
         heart_acc: crate::arrays::u32s_at(m, crate::HEART_ACC_AT),
-        baseline: crate::fields::baseline_at(m, crate::BASELINE_AT),
-        fall: crate::fields::fall_at(m, crate::FALL_AT),
+        baseline: crate::fields::baseline_in(m, crate::BASELINE_AT),
+        fall: crate::fields::fall_in(m, crate::FALL_AT),
     }
 }
 

@@ -6,16 +6,18 @@
 use mathlib.Core.Path.{_≡_, refl, sym, ap, _∙_, subst}
 use mathlib.Core.Bool.{true}
 use mathlib.Core.List.{List, _++_}
-use Prim.Native.Nat.{ℕ, zero, suc, _+_, _-_, _*_, _^_, _≤_, _<_}
+use Prim.Native.Nat.{ℕ, _+_, _-_, _*_, _^_, _≤_, _<_}
 use native.Mathlib.Omega.{arith}
 use lib.IntN.{pos}
-use lib.ListN.{length, getD, take, drop, replicate, length-append, length-replicate, replicate-append-replicate}
+use lib.ListN.{length, take, drop, replicate, length-append, length-replicate}
 use lib.Seq.{drop-drop, take-at, drop-at}
 use borrow.Author.Tests.{eq-eqb}
 use mir.Syntax.{w32}
 use mir.Val.{SFits}
 use Rattle.num.specs.Sum.{square}
 use Rattle.num.proofs.Abs.{sfits-abs}
+use Rattle.num.proofs.Each.{each-replicate}
+use Rattle.num.proofs.Lists.{drop-replicate, part-replicate}
 use Rattle.window.specs.Window.{columns, maxRows}
 use Rattle.window.proofs.Ring.{ring-zero}
 use Rattle.detector.proofs.Calls.{valid-new}
@@ -31,7 +33,7 @@ use Rattle.fall_words.specs.Stored.{wordsOf}
 use Rattle.fall_words.proofs.Stored.{legal-words}
 use Rattle.unit.specs.Unit.{newView}
 use Rattle.unit.specs.Promises.{NewMemory}
-use Rattle.room_memory.specs.Header.{settingsLen, headerLen, flags, stateAt, stateBytes, Small}
+use Rattle.room_memory.specs.Header.{settingsLen, headerLen, stateLen, flags, stateAt, stateBytes, Small}
 use Rattle.room_memory.specs.declared.RoomState.{RoomState}
 use Rattle.room_memory.proofs.Whole as header
 use Rattle.room_memory.proofs.Whole.{Full, stored-loaded, flags-stored, state-long, kept-settings, kept-rest}
@@ -45,34 +47,17 @@ use Rattle.room_state.specs.Memory.{newMemory, goodMemory, viewOf, memor
 use Rattle.room_state.proofs.Told.{Ranged, ranged, good-told}
 use Rattle.room_state.proofs.Restart.{rhythm-new, baseline-new, restarted-new}
 
--- ---- parts of zeros
 abbrev zeros : ℕ → List ℕ
 zeros n = replicate n 0
-
-take-zeros : (k n : ℕ) → take k (zeros (k + n)) ≡ zeros k
-take-zeros k n = ap (take k) (sym (replicate-append-replicate k n 0)) ∙ take-at (zeros k) (zeros n) k (length-replicate k 0)
-
-drop-zeros : (a n : ℕ) → drop a (zeros (a + n)) ≡ zeros n
-drop-zeros a n = ap (drop a) (sym (replicate-append-replicate a n 0)) ∙ drop-at (zeros a) (zeros n) a (length-replicate a 0)
-
-part-zeros : (a k n : ℕ) → a + k ≤ n → partAt a k (zeros n) ≡ zeros k
-part-zeros a k n h =
-    let e : n ≡ a + (k + (n - (a + k))) = omega (arith, h) in
-    ap (λ (m : ℕ). partAt a k (zeros m)) e ∙ ap (take k) (drop-zeros a (k + (n - (a + k)))) ∙ take-zeros k (n - (a + k))
 
 -- behind what is put at their front
 zeros-behind : (g : List ℕ) (a k n size : ℕ) → length g ≡ a → size ≡ a + (k + n) → drop (a + k) (g ++ drop a (zeros size)) ≡ zeros n
 zeros-behind g a k n size long e =
-    let rest : drop a (zeros size) ≡ zeros (k + n) = ap (λ (m : ℕ). drop a (zeros m)) e ∙ drop-zeros a (k + n) in
-    sym (drop-drop k a (g ++ drop a (zeros size))) ∙ ap (drop k) (drop-at g (drop a (zeros size)) a long ∙ rest) ∙ drop-zeros k n
+    let left : size - a - k ≡ n = omega arith in
+    sym (drop-drop k a (g ++ drop a (zeros size)))
+    ∙ rw (drop-at g (drop a (zeros size)) a long, drop-replicate {A = ℕ} 0 a size, drop-replicate {A = ℕ} 0 k (size - a), left)
 
 -- ---- a new state
--- what holds of a and of the default holds of each element of n times a
-each : {A : Type 0} (P : A → Type 0) (n : ℕ) (a d : A) → P a → P d → (j : ℕ) → P (getD (replicate n a) j d)
-each P zero a d p q j = q
-each P (suc n) a d p q zero = p
-each P (suc n) a d p q (suc j) = each P n a d p q j
-
 fresh-full : (w : ℕ) → Full (freshState w)
 fresh-full w = record { sum = refl; sumsq = refl; cos = refl; sin = refl; breathing = refl; heart = refl }
 
@@ -112,12 +97,12 @@ fresh-ranged w small =
       peak = omega arith;
       a = omega arith;
       b = omega arith;
-      sum = each (λ (x : ℕ). x < 2 ^ 32) columns 0 0 (omega arith) (omega arith);
-      sumsq = each (λ (x : ℕ). x < 2 ^ 64) columns 0 0 (omega arith) (omega arith);
-      cos = each (SFits w32) columns _ (pos 0) (subst (SFits w32) (zero-cosines w) cosines) none;
-      sin = each (SFits w32) columns _ (pos 0) (subst (SFits w32) (zero-sines w) none) none;
-      breathing = each (λ (x : ℕ). x < 2 ^ 32) columns 0 0 (omega arith) (omega arith);
-      heart = each (λ (x : ℕ). x < 2 ^ 32) columns 0 0 (omega arith) (omega arith);
+      sum = each-replicate (λ (x : ℕ). x < 2 ^ 32) columns 0 0 (omega arith) (omega arith);
+      sumsq = each-replicate (λ (x : ℕ). x < 2 ^ 64) columns 0 0 (omega arith) (omega arith);
+      cos = each-replicate (SFits w32) columns _ (pos 0) (subst (SFits w32) (zero-cosines w) cosines) none;
+      sin = each-replicate (SFits w32) columns _ (pos 0) (subst (SFits w32) (zero-sines w) none) none;
+      breathing = each-replicate (λ (x : ℕ). x < 2 ^ 32) columns 0 0 (omega arith) (omega arith);
+      heart = each-replicate (λ (x : ℕ). x < 2 ^ 32) columns 0 0 (omega arith) (omega arith);
     }
 
 -- over rows of zeros it is good
@@ -125,8 +110,8 @@ fresh-good : (σ : Settings) → inRange σ ≡ true → GoodState σ (freshStat
 fresh-good σ e =
     let r : Ranged σ = ranged σ e in
     let k : ℕ = ringLength (σ .w) in
-    let first : partAt 0 k (zeros (rowsLength σ)) ≡ zeros k = part-zeros 0 k (rowsLength σ) (omega arith) in
-    let second : partAt k k (zeros (rowsLength σ)) ≡ zeros k = part-zeros k k (rowsLength σ) (omega arith) in
+    let first : partAt 0 k (zeros (rowsLength σ)) ≡ zeros k = part-replicate {A = ℕ} 0 0 k (rowsLength σ) (omega arith) in
+    let second : partAt k k (zeros (rowsLength σ)) ≡ zeros k = part-replicate {A = ℕ} 0 k k (rowsLength σ) (omega arith) in
     let sums = ring-zero amplitudes (σ .w) columns k 0 0 (r .window .small) refl (zero-amplitudes self refl (σ .w)) (zero-amplitudes square refl (σ .w)) in
     let vectors = ring-zero angles (σ .w) columns k _ _ (r .window .small) refl refl refl in
     record {
@@ -153,7 +138,7 @@ module _ (g : List ℕ) (ok : legal g ≡ true) where
   in-range : inRange σ ≡ true
   in-range = legal-ranges g ok
 
-  state-size : length (stateBytes s) ≡ 1876
+  state-size : length (stateBytes s) ≡ stateLen
   state-size = state-long s (fresh-full (σ .w))
 
   new-settings : take settingsLen (newMemory g) ≡ g
@@ -201,7 +186,7 @@ begun-memory g o m′ ok cleared stored =
     let size : ℕ = memorySize (settingsOf g) in
     let rows : ℕ = rowsLength (settingsOf g) in
     let front : take settingsLen o ≡ g = ap (take settingsLen) cleared ∙ take-at g (drop settingsLen (zeros size)) settingsLen long in
-    let behind : drop headerLen o ≡ zeros rows = ap (drop headerLen) cleared ∙ zeros-behind g settingsLen 1876 rows size long (omega arith) in
+    let behind : drop headerLen o ≡ zeros rows = ap (drop headerLen) cleared ∙ zeros-behind g settingsLen stateLen rows size long (omega arith) in
     stored ∙ rw (front, behind)
 
 -- and it has a header

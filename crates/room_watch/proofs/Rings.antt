@@ -3,8 +3,7 @@ use mathlib.Core.Path.{_≡_, sym, ap, subst, _∙_}
 use mathlib.Core.List.{List}
 use Prim.Native.Nat.{ℕ, _+_, _≤_}
 use native.Mathlib.Omega.{arith}
-use lib.ListN.{length, take, drop, length-drop}
-use lib.Seq.{length-take-le}
+use lib.ListN.{length, take, drop}
 use lib.IntN.{ℤ}
 use borrow.Rule.Slice.PartMut.{putMid}
 use Rattle.window.specs.Window.{columns}
@@ -22,7 +21,7 @@ use Rattle.estimator.specs.declared.steps.Stepped.{Stepped}
 use Rattle.room_sensing.specs.declared.settings.Settings.{Settings}
 use Rattle.room_state.specs.Rings.{Rings, phaseFrom, breathingFrom, heartFrom, rowsLength, ringsOf, withPresence, withPhase, withBreathing, withHeart}
 use Rattle.room_watch.specs.Watching.{InPresence, InPhase, InBreathing, InHeart}
-use Rattle.num.proofs.Parts.{put-own, put-behind, put-before, put-long}
+use Rattle.num.proofs.Parts.{part-long, at-part, put-own, put-behind, put-before, put-long}
 
 module _ (σ : Settings) (rows p : List ℕ) (whole : length rows ≡ rowsLength σ) where
   abbrev r : ℕ
@@ -69,17 +68,13 @@ module _ (σ : Settings) (rows p : List ℕ) (whole : length rows ≡ rowsLength
         let e3 = before (breathingFrom σ) q (omega arith) in
         λ i. record { presence = e1 i; phase = e2 i; breathing = e3 i; heart = own i }
 
--- a fact of a place and a length, at equal ones
-at-place : (F : ℕ → ℕ → Type 0) {a b k j : ℕ} → a ≡ b → k ≡ j → F b j → F a k
-at-place F {a} {b} {k} {j} ea ek f = subst (λ (x : ℕ). F x k) (sym ea) (subst (λ (y : ℕ). F b y) (sym ek) f)
-
 -- what is lent is the ring
 pub valid-lent : (K : Kind) (w c : ℕ) (s : State) (fs gs : List (K .sums .Number)) (rows : List ℕ) (a b k j : ℕ) → a ≡ b → k ≡ j
     → Valid K w c s (take j (drop b rows)) fs gs → Valid K w c s (take k (drop a rows)) fs gs
-valid-lent K w c s fs gs rows a b k j ea ek h = at-place (λ (x y : ℕ). Valid K w c s (take y (drop x rows)) fs gs) ea ek h
+valid-lent K w c s fs gs rows a b k j ea ek h = at-part (λ (x y : ℕ). Valid K w c s (take y (drop x rows)) fs gs) ea ek h
 
 pub long-lent : (rows : List ℕ) (a k n : ℕ) → k ≡ n → a + n ≤ length rows → length (take k (drop a rows)) ≡ n
-long-lent rows a k n ek h = length-take-le k (drop a rows) (omega (arith, length-drop a rows)) ∙ ek
+long-lent rows a k n ek h = part-long a k rows (omega arith) ∙ ek
 
 -- a push into the part that is a ring, as a push into that ring
 module _ (σ : Settings) (rows : List ℕ) (whole : length rows ≡ rowsLength σ) (count time a k : ℕ) (p : List ℕ) where
@@ -90,7 +85,7 @@ module _ (σ : Settings) (rows : List ℕ) (whole : length rows ≡ rowsLength �
         → InPresence σ s rows new count time r (putMid a k rows p)
 
     pub in-presence : a ≡ 0 → k ≡ ringLength (σ .w) → InPresencePart a k
-    in-presence ea ek = at-place InPresencePart ea ek (λ h.
+    in-presence ea ek = at-part InPresencePart ea ek (λ h.
         let long = h .valid .ring .whole in
         let back = presence-back σ rows p whole long in
         let own = ap (λ (x : Rings). x .presence) back in
@@ -107,7 +102,7 @@ module _ (σ : Settings) (rows : List ℕ) (whole : length rows ≡ rowsLength �
         → InPhase σ s rows new count time r (putMid a k rows p)
 
     pub in-phase : a ≡ phaseFrom σ → k ≡ ringLength (σ .w) → InPhasePart a k
-    in-phase ea ek = at-place InPhasePart ea ek (λ h.
+    in-phase ea ek = at-part InPhasePart ea ek (λ h.
         let long = h .valid .ring .whole in
         let back = phase-back σ rows p whole long in
         let own = ap (λ (x : Rings). x .phase) back in
@@ -123,7 +118,7 @@ module _ (σ : Settings) (rows : List ℕ) (whole : length rows ≡ rowsLength �
         Took (σ .breathing) (σ .n) time g acc (take k (drop a rows)) new count r acc′ p → InBreathing σ g acc rows new count time r acc′ (putMid a k rows p)
 
     pub in-breathing : a ≡ breathingFrom σ → k ≡ ringLength (σ .n) → InBreathingPart a k
-    in-breathing ea ek = at-place InBreathingPart ea ek (λ h.
+    in-breathing ea ek = at-part InBreathingPart ea ek (λ h.
         let back = breathing-back σ rows p whole (h .whole) in
         let own = ap (λ (x : Rings). x .breathing) back in
         record {
@@ -137,7 +132,7 @@ module _ (σ : Settings) (rows : List ℕ) (whole : length rows ≡ rowsLength �
         Took (σ .heart) (σ .n) time g acc (take k (drop a rows)) new count r acc′ p → InHeart σ g acc rows new count time r acc′ (putMid a k rows p)
 
     pub in-heart : a ≡ heartFrom σ → k ≡ ringLength (σ .n) → InHeartPart a k
-    in-heart ea ek = at-place InHeartPart ea ek (λ h.
+    in-heart ea ek = at-part InHeartPart ea ek (λ h.
         let back = heart-back σ rows p whole (h .whole) in
         let own = ap (λ (x : Rings). x .heart) back in
         record {

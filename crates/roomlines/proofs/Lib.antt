@@ -1,4 +1,3 @@
 pub mod Counted
 pub mod Meant
-pub mod Moved
 pub mod Pieces

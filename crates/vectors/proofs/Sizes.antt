@@ -1,6 +1,4 @@
 -- The size of a unit vector's components, and of what a mean misses. Assumes nothing.
-use mathlib.Core.Path.{_≡_}
-use mathlib.Core.Bool.{Bool, true, false, cond}
 use Prim.Native.Nat.{ℕ, _+_, _-_, _*_, _/_, _≤_, _<_, min}
 use native.Mathlib.Nat.{mul-le-mul-right, div-le-of-le-mul}
 use native.Mathlib.Omega.{arith}
@@ -8,19 +6,16 @@ use lib.Dec.{eqb}
 use lib.IntN.{ℤ, pos, negℤ, natAbs}
 use lib.ListN.{getD}
 use Rattle.num.proofs.Abs.{abs-neg}
+use Rattle.num.proofs.Cond.{cond-holds}
 use Rattle.num.specs.Root.{root}
 use Rattle.vectors.specs.Tables.{sinQuarter}
 use Rattle.vectors.proofs.Rules.{sin-le}
 use Rattle.vectors.specs.Vector.{quarter, step, byQuarter, cosAt, sinAt, missingPpm, columnPpm, meanSquare}
 
-cond-le : (t : Bool) (x y : ℤ) → natAbs x ≤ 16384 → natAbs y ≤ 16384 → natAbs (cond t x y) ≤ 16384
-cond-le true x y h k = h
-cond-le false x y h k = k
-
 quarter-le : (q : ℕ) (a b c d : ℤ) → natAbs a ≤ 16384 → natAbs b ≤ 16384 → natAbs c ≤ 16384 → natAbs d ≤ 16384 → natAbs (byQuarter q a b c d) ≤ 16384
 quarter-le q a b c d ha hb hc hd =
-    cond-le (eqb q 0) a (cond (eqb q 1) b (cond (eqb q 2) c d)) ha
-    (cond-le (eqb q 1) b (cond (eqb q 2) c d) hb (cond-le (eqb q 2) c d hc hd))
+    let Small : ℤ → Type 0 = λ z. natAbs z ≤ 16384 in
+    cond-holds Small (eqb q 0) a _ (λ e. ha) (λ e. cond-holds Small (eqb q 1) b _ (λ e. hb) (λ e. cond-holds Small (eqb q 2) c d (λ e. hc) (λ e. hd)))
 
 step-lt : (b : ℕ) → step b < 257
 step-lt b = omega arith
@@ -32,20 +27,17 @@ module _ (b : ℕ) where
   c-le : natAbs (pos (getD sinQuarter (256 - step b) 0)) ≤ 16384
   c-le = sin-le (256 - step b) (omega arith)
 
-minus-le : (x : ℤ) → natAbs x ≤ 16384 → natAbs (negℤ x) ≤ 16384
-minus-le x h = omega (arith, abs-neg x)
-
 pub cos-le : (b : ℕ) → natAbs (cosAt b) ≤ 16384
 unfolding cosAt
 cos-le b =
     let s = pos (getD sinQuarter (step b) 0) in let c = pos (getD sinQuarter (256 - step b) 0) in
-    quarter-le (quarter b) c (negℤ s) (negℤ c) s (c-le b) (minus-le s (s-le b)) (minus-le c (c-le b)) (s-le b)
+    quarter-le (quarter b) c (negℤ s) (negℤ c) s (c-le b) (omega (arith, abs-neg s, s-le b)) (omega (arith, abs-neg c, c-le b)) (s-le b)
 
 pub sine-le : (b : ℕ) → natAbs (sinAt b) ≤ 16384
 unfolding sinAt
 sine-le b =
     let s = pos (getD sinQuarter (step b) 0) in let c = pos (getD sinQuarter (256 - step b) 0) in
-    quarter-le (quarter b) s c (negℤ s) (negℤ c) (s-le b) (c-le b) (minus-le s (s-le b)) (minus-le c (c-le b))
+    quarter-le (quarter b) s c (negℤ s) (negℤ c) (s-le b) (c-le b) (omega (arith, abs-neg s, s-le b)) (omega (arith, abs-neg c, c-le b))
 
 -- no more than the whole is missing
 pub ppm-le : (w : ℕ) (c s : ℤ) → columnPpm w c s ≤ 1000000

@@ -1,15 +1,9 @@
--- The ranges that a test of settings stands for; a sum that leaves room in 32 bits; a divisor that is exact. Assumes nothing.
+-- The ranges that a test of settings stands for; a divisor that is exact. Assumes nothing.
 use mathlib.Core.Path.{_≡_, refl}
 use mathlib.Core.Bool.{true}
 use Prim.Native.Nat.{ℕ, _≤_}
 use borrow.Author.Tests.{leb-true}
 use lib.Dec.{leb}
-use lib.IntN.{ℤ, natAbs}
-use mir.Syntax.{w32}
-use mir.Val.{toZ, ofZ}
-use mir.Facts.{toZ-ofZ}
-use native.Mathlib.Omega.{arith}
-use Rattle.num.proofs.Abs.{sfits-abs}
 use Rattle.num.proofs.Logic.{both}
 use Rattle.vitals.specs.Band.{usable}
 use Rattle.vitals.specs.Steps.{Exact, divisorOf}
@@ -32,9 +26,6 @@ usable-facts b rate e =
       low = leb-true 1 (b .«lo_mhz») (three .0);
       high = leb-true 1 (b .«hi_mhz») (three .1);
     }
-
-pub reads-back : (s : ℤ) → natAbs s ≤ 1073741824 → toZ w32 (ofZ w32 s) ≡ s
-reads-back s h = toZ-ofZ {w = w32} {z = s} (sfits-abs {w = w32} s (omega arith))
 
 pub exact : (d : Divisor) (n : ℕ) → d ≡ divisorOf n → 1 ≤ n → n ≤ 32767 → Exact d
 exact d n e some few = rw e (record { some = some; few = few; factor = refl })

@@ -3,7 +3,7 @@ use mathlib.Core.Path.{_≡_, sym, ap, _∙_}
 use mathlib.Core.List.{List}
 use Prim.Native.Nat.{ℕ, _+_, _-_, _*_, _≤_}
 use native.Mathlib.Omega.{arith}
-use lib.ListN.{length, take, drop, length-take, length-drop}
+use lib.ListN.{length, take, drop, length-take}
 use lib.Seq.{take-all, getD-drop}
 use lib.IntN.{ℤ, pos, natAbs, _*ℤ_}
 use lib.Signed.{quotZ}
@@ -13,10 +13,6 @@ use Rattle.num.proofs.Dot.{dot-cut, dot-front, dot-self-size, part-size}
 use Rattle.vitals.specs.Correlation.{energy, lagged, corrOf}
 use Rattle.vitals.specs.Steps.{Summable, ZerosFrom, Padded}
 use Rattle.vitals.proofs.Windows.{samples-take}
-
--- `&x[lag..]`
-pub rest : (x : List ℤ) (lag : ℕ) → take (length x - lag) (drop lag x) ≡ drop lag x
-rest x lag = take-all (length x - lag) (drop lag x) (omega (arith, length-drop lag x))
 
 module _ (n : ℕ) (x : List ℤ) (pad : Padded n x) where
   -- the squares of the zeros add nothing

@@ -1,13 +1,14 @@
 -- Windows of a series: the size of their sums, a window that moves on, and the window around a sample. Assumes nothing.
 use mathlib.Core.Path.{_≡_, sym, ap, _∙_}
 use mathlib.Core.List.{List}
-use Prim.Native.Nat.{ℕ, _+_, _-_, _*_, _≤_, _<_, min}
-use native.Mathlib.Decide.{decLe, decLt}
+use Prim.Native.Nat.{ℕ, _+_, _-_, _*_, _≤_, _<_}
 use native.Mathlib.Omega.{arith}
-use lib.ListN.{length, take, drop, length-take, List·getD-eq-default}
-use lib.Seq.{slice, length-slice, getD-take, getD-drop, take-all}
+use lib.ListN.{length, take, drop, length-take}
+use lib.Seq.{slice, length-slice, getD-take, getD-drop}
 use lib.IntN.{ℤ, pos, natAbs, _+ℤ_, _-ℤ_}
 use Rattle.num.specs.Sum.{sumZ}
+use Rattle.num.proofs.Each.{at-every}
+use Rattle.num.proofs.Lists.{take-min}
 use Rattle.num.proofs.SumZ.{sum-size, sum-grown, sum-shrunk}
 use Rattle.vitals.specs.Series.{at, around}
 use Rattle.vitals.specs.Steps.{Samples, Slid, Around}
@@ -15,11 +16,9 @@ use Rattle.vitals.specs.declared.steps.series.Window.{Window}
 
 -- a part of samples
 pub samples-take : (m : ℕ) (x : List ℤ) → Samples x → Samples (take m x)
-samples-take m x s k = go (decLt k m)
-  where
-    go : Dec (k < m) → natAbs (at (take m x) k) ≤ 32768
-    go (yes h) = rw (getD-take m x k (pos 0) h) (s k)
-    go (no f) = rw (List·getD-eq-default (take m x) (pos 0) {n = k} (omega (arith, length-take m x))) (omega arith)
+samples-take m x s =
+    at-every (λ (z : ℤ). natAbs z ≤ 32768) (pos 0) (omega arith) (take m x)
+    (λ k h. rw (getD-take m x k (pos 0) (omega (arith, length-take m x))) (s k))
 
 -- the sum of the samples from lo to before hi is no larger than so many samples can give
 pub slice-size : (x : List ℤ) (lo hi : ℕ) → hi ≤ length x → Samples x → natAbs (sumZ (slice lo hi x)) ≤ 32768 * (hi - lo)
@@ -51,17 +50,9 @@ module _ (x : List ℤ) (w : Window) (slid : Slid x w) (few : length x ≤ 512) 
     total = e ∙ ap (λ (z : ℤ). z -ℤ at x (w .lo)) (slid .total) ∙ sym (sum-shrunk x (w .lo) (w .hi) h (slid .inside));
   }
 
--- a part that reaches past the end ends there
-take-end : (x : List ℤ) (h : ℕ) → take (min h (length x)) x ≡ take h x
-take-end x h = go (decLe h (length x))
-  where
-    go : Dec (h ≤ length x) → take (min h (length x)) x ≡ take h x
-    go (yes l) = let e : min h (length x) ≡ h = omega arith in rw e
-    go (no f) = let e : min h (length x) ≡ length x = omega arith in rw (e, take-all h x (omega arith), take-all (length x) x (omega arith))
-
 module _ (x : List ℤ) (half i : ℕ) (w : Window) (a : Around x half i w) where
   same-part : slice (w .lo) (w .hi) x ≡ around half x i
-  same-part = rw (a .low, a .high) (ap (drop (i - half)) (take-end x (i + half + 1)))
+  same-part = rw (a .low, a .high) (ap (drop (i - half)) (take-min (i + half + 1) x))
 
   pub around-sum : w .sum ≡ sumZ (around half x i)
   around-sum = a .slid .total ∙ ap sumZ same-part

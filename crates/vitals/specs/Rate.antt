@@ -1,5 +1,5 @@
 -- The parabola through a peak, the rate, and how sure it is (vitals.rs, `estimate`). Assumes nothing.
-use Prim.Native.Nat.{ℕ, _+_, _-_, _*_, _/_, min, max}
+use Prim.Native.Nat.{ℕ, _+_, _*_, _/_, min, max}
 use mathlib.Core.Bool.{Bool, cond, _&&_}
 use lib.Dec.{ltb, leb}
 use lib.IntN.{ℤ, pos, negsuc, _+ℤ_, _-ℤ_, _*ℤ_}

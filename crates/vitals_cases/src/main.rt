@@ -1,5 +1,4 @@
 // Replays recorded lags and frames: a line for each case. `stdout` holds what the Rust answered.
-ghost use mathlib.Core.Path.{_≡_};
 ghost use Prim.Native.Nat.{_*_, _+_, _≤_, _<_};
 ghost use lib.ListN.{length};
 use cases::Case;

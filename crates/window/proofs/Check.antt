@@ -1,9 +1,9 @@
 -- The check of carried sums, on plain values: the sums of all columns in one pass over the rows, row by row (`Adding` within a row,
 -- `Added` from row to row), and the comparison of these with the sums carried (`Alike`). Assumes nothing.
-use mathlib.Core.Path.{_≡_, refl, sym, ap, _∙_}
+use mathlib.Core.Path.{_≡_, sym, ap, _∙_}
 use mathlib.Core.Bool.{Bool, true, false, _&&_, decide}
-use mathlib.Core.List.{List, [], _∷_}
-use Prim.Native.Nat.{ℕ, zero, suc, _+_, _*_, _<_, _≤_}
+use mathlib.Core.List.{List}
+use Prim.Native.Nat.{ℕ, _+_, _*_, _<_, _≤_}
 use native.Mathlib.Omega.{arith}
 use borrow.Author.Count.{below-more}
 use lib.Dec.{leb, eqb}
@@ -13,43 +13,47 @@ use Rattle.num.specs.Tests.{Tells, allBelow}
 use Rattle.num.proofs.Tests.{tells-no, tells-same, tells-iff, tells-both, tells-le, tells-eq, tells-decide, tells-below}
 use Rattle.window.specs.Words.{words}
 use Rattle.window.specs.Window.{maxRows, column, ringRows}
-use Rattle.window.specs.Sums.{totalBy, CarriedBy, Summing, Lawful, Carried, Ring, first, second, sumsAt, isCarried, isRing}
+use Rattle.window.specs.Sums.{totalBy, Summing, Lawful, columnSum, CarriedBy, Carried, Ring, sumsAt, isCarried, isRing}
 use Rattle.window.proofs.Totals.{total-take-suc}
 use Rattle.window.proofs.Rows.{length-cut, column-take}
 use Rattle.window.proofs.Ring.{ring-at, length-ring-column}
 
 -- the sums of one function: those of the columns below sc have the row in `slot`, the others not yet
-pub record Half {A : Type 0} (add : A → A → A) (none : A) (f : ℕ → A) (c slot : ℕ) (rows : List (List ℕ)) (sums : List A) (sc : ℕ) : Type 0 where
+pub record Half (S : Summing) (f : ℕ → S .Number) (c slot : ℕ) (rows : List (List ℕ)) (sums : List (S .Number)) (sc : ℕ) : Type 0 where
   pub long : length sums ≡ c
-  pub done : CarriedBy add none f sc (take (slot + 1) rows) sums
-  pub left : (k : ℕ) → sc ≤ k → k < c → getD sums k none ≡ totalBy add none f (column (take slot rows) k)
+  pub done : CarriedBy S f sc (take (slot + 1) rows) sums
+  pub left : (k : ℕ) → sc ≤ k → k < c → getD sums k (S .none) ≡ columnSum S f (take slot rows) k
 
-module _ {A : Type 0} (add : A → A → A) (none : A) (exchange : (a b c : A) → add a (add b c) ≡ add b (add a c)) (f : ℕ → A) (w c slot : ℕ) (bytes : List ℕ) where
+module _ (S : Summing) (lawful : Lawful S) (f : ℕ → S .Number) (w c slot : ℕ) (bytes : List ℕ) (in-ring : slot < w) where
   -- a column of one row more
-  one-more : slot < w → (sc : ℕ) → sc < c
-      → totalBy add none f (column (take (slot + 1) (ringRows w c bytes)) sc) ≡ add (f (getD (words bytes) (slot * c + sc) 0)) (totalBy add none f (column (take slot (ringRows w c bytes)) sc))
-  one-more h sc k =
+  one-more : (sc : ℕ) → sc < c
+      → columnSum S f (take (slot + 1) (ringRows w c bytes)) sc ≡ S .add (f (getD (words bytes) (slot * c + sc) 0)) (columnSum S f (take slot (ringRows w c bytes)) sc)
+  one-more sc k =
       let rows : List (List ℕ) = ringRows w c bytes in
       let there : slot < length (column rows sc) = omega (arith, length-ring-column w c bytes sc) in
-      rw (column-take (slot + 1) rows sc, column-take slot rows sc, total-take-suc add none exchange f (column rows sc) slot there, ring-at w c bytes slot sc h k)
+      rw (column-take (slot + 1) rows sc, column-take slot rows sc, total-take-suc (S .add) (S .none) (lawful .exchange) f (column rows sc) slot there, ring-at w c bytes slot sc in-ring k)
 
-  half-turn : slot < w → (sums : List A) (sc : ℕ) → Half add none f c slot (ringRows w c bytes) sums sc → sc < c
-      → (s : A) → s ≡ add (f (getD (words bytes) (slot * c + sc) 0)) (getD sums sc none) → Half add none f c slot (ringRows w c bytes) (set sums sc s) (sc + 1)
-  half-turn h sums sc inv k s e =
-      let lg = inv .long in
-      record {
-        long = length-set sums sc s ∙ inv .long;
-        done =
-            below-more _ sc (λ j l. getD-set-other sums sc j s none (λ q. omega arith) ∙ inv .done j l)
-            (getD-set-same sums sc s none (omega arith) ∙ e ∙ ap (add (f (getD (words bytes) (slot * c + sc) 0))) (inv .left sc (omega arith) k) ∙ sym (one-more h sc k));
-        left = λ j l m. getD-set-other sums sc j s none (λ q. omega arith) ∙ inv .left j (omega arith) m;
-      }
+  module _ (sums : List (S .Number)) (sc : ℕ) (inv : Half S f c slot (ringRows w c bytes) sums sc) (more : sc < c) (x : ℕ) (x-is : x ≡ getD (words bytes) (slot * c + sc) 0) where
+    -- the sum that the next column gets
+    pub next-sum : S .add (f x) (getD sums sc (S .none)) ≡ columnSum S f (take (slot + 1) (ringRows w c bytes)) sc
+    next-sum = rw x-is (ap (S .add (f (getD (words bytes) (slot * c + sc) 0))) (inv .left sc (omega arith) more) ∙ sym (one-more sc more))
+
+    half-turn : (s : S .Number) → s ≡ S .add (f x) (getD sums sc (S .none)) → Half S f c slot (ringRows w c bytes) (set sums sc s) (sc + 1)
+    half-turn s e =
+        let lg = inv .long in
+        record {
+          long = length-set sums sc s ∙ inv .long;
+          done =
+              below-more _ sc (λ j l. getD-set-other sums sc j s (S .none) (λ q. omega arith) ∙ inv .done j l)
+              (getD-set-same sums sc s (S .none) (omega arith) ∙ e ∙ next-sum);
+          left = λ j l m. getD-set-other sums sc j s (S .none) (λ q. omega arith) ∙ inv .left j (omega arith) m;
+        }
 
 -- A row is added: the columns below sc have it
 pub record Adding (S : Summing) (w c slot : ℕ) (bytes : List ℕ) (fs gs : List (S .Number)) (sc : ℕ) : Type 0 where
   pub within : sc ≤ c
-  pub firsts : Half (S .add) (S .none) (S .f) c slot (ringRows w c bytes) fs sc
-  pub seconds : Half (S .add) (S .none) (S .g) c slot (ringRows w c bytes) gs sc
+  pub firsts : Half S (S .f) c slot (ringRows w c bytes) fs sc
+  pub seconds : Half S (S .g) c slot (ringRows w c bytes) gs sc
 
 -- the sums are those of the first n rows
 abbrev pub Added : (S : Summing) (w c : ℕ) (bytes : List ℕ) (n : ℕ) → List (S .Number) → List (S .Number) → Type 0
@@ -65,26 +69,13 @@ module _ (S : Summing) (lawful : Lawful S) (w c slot : ℕ) (bytes : List ℕ) w
       }
 
   module _ (in-ring : slot < w) (fs gs : List (S .Number)) (sc : ℕ) (inv : Adding S w c slot bytes fs gs sc) (more : sc < c) (x : ℕ) (x-is : x ≡ getD (words bytes) (slot * c + sc) 0) where
-    -- the sums that the next column gets
-    pub add-first : S .add (S .f x) (getD fs sc (S .none)) ≡ first S (take (slot + 1) (ringRows w c bytes)) sc
-    add-first =
-        rw x-is
-        (ap (S .add (S .f (getD (words bytes) (slot * c + sc) 0))) (inv .firsts .left sc (omega arith) more)
-        ∙ sym (one-more (S .add) (S .none) (lawful .exchange) (S .f) w c slot bytes in-ring sc more))
-
-    pub add-second : S .add (S .g x) (getD gs sc (S .none)) ≡ second S (take (slot + 1) (ringRows w c bytes)) sc
-    add-second =
-        rw x-is
-        (ap (S .add (S .g (getD (words bytes) (slot * c + sc) 0))) (inv .seconds .left sc (omega arith) more)
-        ∙ sym (one-more (S .add) (S .none) (lawful .exchange) (S .g) w c slot bytes in-ring sc more))
-
     pub add-turn : (s q : S .Number) → s ≡ S .add (S .f x) (getD fs sc (S .none)) → q ≡ S .add (S .g x) (getD gs sc (S .none))
         → Adding S w c slot bytes (set fs sc s) (set gs sc q) (sc + 1)
     add-turn s q ef eg =
         record {
           within = omega arith;
-          firsts = half-turn (S .add) (S .none) (lawful .exchange) (S .f) w c slot bytes in-ring fs sc (inv .firsts) more s (rw (← x-is) ef);
-          seconds = half-turn (S .add) (S .none) (lawful .exchange) (S .g) w c slot bytes in-ring gs sc (inv .seconds) more q (rw (← x-is) eg);
+          firsts = half-turn S lawful (S .f) w c slot bytes in-ring fs sc (inv .firsts) more x x-is s ef;
+          seconds = half-turn S lawful (S .g) w c slot bytes in-ring gs sc (inv .seconds) more x x-is q eg;
         }
 
   pub add-end : (fs gs : List (S .Number)) (sc : ℕ) → Adding S w c slot bytes fs gs sc → c ≤ sc → Added S w c bytes (slot + 1) fs gs
@@ -108,8 +99,8 @@ module _ (S : Summing) (w c : ℕ) (bytes : List ℕ) where
       tells-iff (allBelow c (sumsAt S rows fs gs))
       (λ all. record { firsts = λ k h. all k h .0; seconds = λ k h. all k h .1 })
       (λ sums k h. (sums .firsts k h, sums .seconds k h))
-      (tells-below c (sumsAt S rows fs gs) (λ k. (getD fs k (S .none) ≡ first S rows k) × (getD gs k (S .none) ≡ second S rows k))
-      (λ k. tells-both (decide (S .same (getD fs k (S .none)) (first S rows k))) (decide (S .same (getD gs k (S .none)) (second S rows k))) (tells-decide (S .same (getD fs k (S .none)) (first S rows k))) (tells-decide (S .same (getD gs k (S .none)) (second S rows k)))))
+      (tells-below c (sumsAt S rows fs gs) (λ k. (getD fs k (S .none) ≡ columnSum S (S .f) rows k) × (getD gs k (S .none) ≡ columnSum S (S .g) rows k))
+      (λ k. tells-both (decide (S .same (getD fs k (S .none)) (columnSum S (S .f) rows k))) (decide (S .same (getD gs k (S .none)) (columnSum S (S .g) rows k))) (tells-decide (S .same (getD fs k (S .none)) (columnSum S (S .f) rows k))) (tells-decide (S .same (getD gs k (S .none)) (columnSum S (S .g) rows k)))))
 
   pub ring-told : (fs gs : List (S .Number)) → Tells (isRing S w c bytes fs gs) (Ring S w c bytes fs gs)
   unfolding isRing

@@ -8,7 +8,7 @@ use native.Mathlib.Omega.{arith}
 use lib.ListN.{length, getD}
 use Rattle.window.specs.Words.{words}
 use Rattle.window.specs.Window.{windowOf, ringRows, width}
-use Rattle.window.specs.Sums.{Summing, Lawful, Ring, first, second, sumTo, carriedMean, windowMean}
+use Rattle.window.specs.Sums.{Summing, Lawful, Ring, columnSum, sumTo, carriedMean, windowMean}
 use Rattle.window.proofs.Rows.{length-cut}
 use Rattle.window.proofs.Ring.{length-ring-row}
 use Rattle.window.proofs.View.{Long, column-perm, window-total, window-width, length-window}
@@ -65,24 +65,24 @@ module _ (S : Summing) (lawful : Lawful S) (term : ℕ → S .Number → S .Numb
   mean-no-order {n} {window} {other} long p =
       rw (length-perm p, width-perm p long)
       (ap (λ (t : ℕ). t / width other)
-      (sumTo-same (width other) (λ sc. term (length other) (first S window sc) (second S window sc)) (λ sc. term (length other) (first S other sc) (second S other sc))
-      (λ k h. rw (column-perm (S .add) (S .none) (lawful .exchange) (S .f) p k, column-perm (S .add) (S .none) (lawful .exchange) (S .g) p k))))
+      (sumTo-same (width other) (λ sc. term (length other) (columnSum S (S .f) window sc) (columnSum S (S .g) window sc)) (λ sc. term (length other) (columnSum S (S .f) other sc) (columnSum S (S .g) other sc))
+      (λ k h. rw (column-perm S lawful (S .f) p k, column-perm S lawful (S .g) p k))))
 
   -- the carried sums give the mean of a full window, from whichever slot it starts
-  pub mean-carried : (w c : ℕ) (bytes : List ℕ) (fs gs : List (S .Number)) → Ring S w c bytes fs gs → (next n : ℕ) → n ≤ c → 0 < w
+  pub mean-carried : {w c : ℕ} {bytes : List ℕ} {fs gs : List (S .Number)} → Ring S w c bytes fs gs → (next n : ℕ) → n ≤ c → 0 < w
       → carriedMean S term w n fs gs ≡ windowMean S term (windowOf next w n (ringRows w c bytes))
   unfolding carriedMean windowMean
-  mean-carried w c bytes fs gs ring next n narrow some =
+  mean-carried {w} {c} {bytes} {fs} {gs} ring next n narrow some =
       let rows : List (List ℕ) = ringRows w c bytes in
       let len : length rows ≡ w = length-cut w c (words bytes) in
       rw (length-window next w n rows (omega arith), window-width next w n c rows (ring-long w c bytes (ring .whole)) narrow some (omega arith))
       (ap (λ (t : ℕ). t / n)
-      (sumTo-same n (λ sc. term w (getD fs sc (S .none)) (getD gs sc (S .none))) (λ sc. term w (first S (windowOf next w n rows) sc) (second S (windowOf next w n rows) sc))
+      (sumTo-same n (λ sc. term w (getD fs sc (S .none)) (getD gs sc (S .none))) (λ sc. term w (columnSum S (S .f) (windowOf next w n rows) sc) (columnSum S (S .g) (windowOf next w n rows) sc))
       (λ k h. rw (
         ring .sums .firsts k (omega arith),
         ring .sums .seconds k (omega arith),
-        window-total (S .add) (S .none) (lawful .exchange) (S .f) next n rows w len k h,
-        window-total (S .add) (S .none) (lawful .exchange) (S .g) next n rows w len k h,
+        window-total S lawful (S .f) next n rows w len k h,
+        window-total S lawful (S .g) next n rows w len k h,
       ))))
 
   -- its size

@@ -1,15 +1,16 @@
 -- Laws of the ring in memory, for every sum: an entry lies within it, one stored entry keeps the sums carried, the sums are of the size that
 -- their number of rows allows, and cleared memory is a ring. Assumes nothing.
-use mathlib.Core.Path.{_≡_, refl, sym, ap, _∙_, subst}
-use mathlib.Core.List.{List, [], _∷_}
-use Prim.Native.Nat.{ℕ, zero, suc, _+_, _*_, _<_, _≤_}
+use mathlib.Core.Path.{_≡_, sym, ap, _∙_, subst}
+use mathlib.Core.List.{List, []}
+use Prim.Native.Nat.{ℕ, _+_, _*_, _<_, _≤_}
 use native.Mathlib.Omega.{arith}
 use lib.Arith.{digits-lt}
 use lib.ListN.{length, take, getD, set, replicate, length-replicate, getD-replicate}
 use lib.Seq.{length-take-le, getD-take, take-all}
+use Rattle.num.proofs.Lists.{all-same}
 use Rattle.window.specs.Words.{words, putWord}
-use Rattle.window.specs.Window.{maxRows, column, cut, ringRows}
-use Rattle.window.specs.Sums.{totalBy, CarriedBy, Summing, Lawful, Carried, Ring, first, second}
+use Rattle.window.specs.Window.{maxRows, column, ringRows}
+use Rattle.window.specs.Sums.{totalBy, Summing, Lawful, columnSum, Ring}
 use Rattle.window.proofs.Words.{words-put, words-below, zero-words, length-put, length-words}
 use Rattle.window.proofs.Totals.{total-size}
 use Rattle.window.proofs.Rows.{length-cut, length-row, cut-at, cut-set, length-column, column-at, column-take, carried-set}
@@ -38,22 +39,22 @@ module _ (w c : ℕ) (bytes : List ℕ) where
       omega (arith, ring-at i sc (omega (arith, length-ring-column sc)) k, words-below bytes bytes-fit (i * c + sc))
 
   -- the size of a column's sum, over the first n rows and over all, for a term of 16 bits of a size of at most m
-  module _ {A : Type 0} (add : A → A → A) (none : A) (size : A → ℕ) (of-none : size none ≤ 0) (of-sum : (a b : A) → size (add a b) ≤ size a + size b)
-      (f : ℕ → A) (m : ℕ) (of-term : (x : ℕ) → x < 65536 → size (f x) ≤ m) (bytes-fit : (i : ℕ) → getD bytes i 0 < 256)
+  module _ (S : Summing) (size : S .Number → ℕ) (of-none : size (S .none) ≤ 0) (of-sum : (a b : S .Number) → size (S .add a b) ≤ size a + size b)
+      (f : ℕ → S .Number) (m : ℕ) (of-term : (x : ℕ) → x < 65536 → size (f x) ≤ m) (bytes-fit : (i : ℕ) → getD bytes i 0 < 256)
     where
-      pub part-size : (n : ℕ) → n ≤ w → (sc : ℕ) → sc < c → size (totalBy add none f (column (take n (ringRows w c bytes)) sc)) ≤ n * m
+      pub part-size : (n : ℕ) → n ≤ w → (sc : ℕ) → sc < c → size (columnSum S f (take n (ringRows w c bytes)) sc) ≤ n * m
       part-size n most sc k =
           let col : List ℕ = column (ringRows w c bytes) sc in
           let len : length col ≡ w = length-ring-column sc in
           let part : length (take n col) ≡ n = length-take-le n col (omega arith) in
           rw (column-take n (ringRows w c bytes) sc)
-          (subst (λ (r : ℕ). size (totalBy add none f (take n col)) ≤ r * m) part
-          (total-size add none size of-none of-sum f m (take n col)
+          (subst (λ (r : ℕ). size (totalBy (S .add) (S .none) f (take n col)) ≤ r * m) part
+          (total-size (S .add) (S .none) size of-none of-sum f m (take n col)
           (λ i h. rw (getD-take n col i 0 (omega arith)) (of-term (getD col i 0) (column-below bytes-fit sc k i (omega arith))))))
 
-      pub column-size : (sc : ℕ) → sc < c → size (totalBy add none f (column (ringRows w c bytes) sc)) ≤ w * m
+      pub column-size : (sc : ℕ) → sc < c → size (columnSum S f (ringRows w c bytes) sc) ≤ w * m
       column-size sc k =
-          subst (λ (l : List (List ℕ)). size (totalBy add none f (column l sc)) ≤ w * m)
+          subst (λ (l : List (List ℕ)). size (columnSum S f l sc) ≤ w * m)
           (take-all w (ringRows w c bytes) (omega (arith, length-cut w c (words bytes)))) (part-size w (omega arith) sc k)
 
   module _ (S : Summing) (lawful : Lawful S) (fs gs : List (S .Number)) (ring : Ring S w c bytes fs gs) where
@@ -72,15 +73,10 @@ module _ (w c : ℕ) (bytes : List ℕ) where
           small = ring .small;
           whole = length-put bytes (slot * c + sc) v ∙ ring .whole;
           sums = record {
-            firsts = rw put (carried-set (S .add) (S .none) (lawful .exchange) (lawful .cancel) (S .f) c rows fs slot sc v in-ring in-row (omega arith) (ring .sums .firsts) k s (rw at ef));
-            seconds = rw put (carried-set (S .add) (S .none) (lawful .exchange) (lawful .cancel) (S .g) c rows gs slot sc v in-ring in-row (omega arith) (ring .sums .seconds) k q (rw at eg));
+            firsts = rw put (carried-set S lawful (S .f) c rows fs slot sc v in-ring in-row (omega arith) (ring .sums .firsts) k s (rw at ef));
+            seconds = rw put (carried-set S lawful (S .g) c rows gs slot sc v in-ring in-row (omega arith) (ring .sums .seconds) k q (rw at eg));
           };
         }
-
--- a list whose elements are all v
-all-same : (v : ℕ) (xs : List ℕ) → ((i : ℕ) → i < length xs → getD xs i 0 ≡ v) → xs ≡ replicate (length xs) v
-all-same v [] h = refl
-all-same v (x ∷ xs) h = rw (h 0 (omega arith), ← all-same v xs (λ i k. h (suc i) (omega arith)))
 
 -- cleared memory with the sums of w zeros is a ring: in a sum of cosines a zero is not nothing
 pub ring-zero : (S : Summing) (w c n : ℕ) (a b : S .Number) → w ≤ maxRows → n ≡ 2 * (w * c)
@@ -100,4 +96,4 @@ ring-zero S w c n a b small whole ea eb =
     zeros sc h =
         let col : List ℕ = column (ringRows w c (replicate n 0)) sc in
         let len : length col ≡ w = length-ring-column w c (replicate n 0) sc in
-        all-same 0 col (λ i k. ring-at w c (replicate n 0) i sc (omega arith) h ∙ zero-words n (i * c + sc)) ∙ ap (λ (m : ℕ). replicate m 0) len
+        all-same 0 0 col (λ i k. ring-at w c (replicate n 0) i sc (omega arith) h ∙ zero-words n (i * c + sc)) ∙ ap (λ (m : ℕ). replicate m 0) len

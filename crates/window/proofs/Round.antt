@@ -1,11 +1,10 @@
 -- A full window read round the ring, from the oldest row on. Assumes nothing.
-use mathlib.Core.Path.{_≡_, refl, sym, ap, _∙_}
-use mathlib.Core.Bool.{Bool, true, false}
-use mathlib.Core.List.{List, [], _∷_, _++_, map}
-use Prim.Native.Nat.{ℕ, zero, suc, _+_, _-_, _*_, _<_, _≤_}
+use mathlib.Core.Path.{_≡_, sym, ap, _∙_}
+use mathlib.Core.List.{List, [], _++_, map}
+use Prim.Native.Nat.{ℕ, _+_, _-_, _*_, _<_, _≤_}
 use native.Mathlib.Decide.{decLt}
 use native.Mathlib.Omega.{arith}
-use lib.ListN.{length, take, drop, getD, length-drop, List·getD-append}
+use lib.ListN.{length, take, drop, getD, length-drop, List·getD-append, List·getD-map}
 use lib.Seq.{getD-take, getD-drop, take-nil, getD-append-add}
 use borrow.Author.Tests.{lt-ltb, le-ltb}
 use Rattle.window.specs.Words.{words}
@@ -13,9 +12,7 @@ use Rattle.window.specs.Window.{ringRows, windowOf, column, turn}
 use Rattle.window.proofs.Rows.{length-cut, cut-at, column-at}
 
 at-map : (n : ℕ) (xs : List (List ℕ)) (k : ℕ) → getD (map (take n) xs) k [] ≡ take n (getD xs k [])
-at-map n [] k = sym (take-nil n)
-at-map n (x ∷ xs) zero = refl
-at-map n (x ∷ xs) (suc k) = at-map n xs k
+at-map n xs k = ap (getD (map (take n) xs) k) (sym (take-nil n)) ∙ List·getD-map (take n) xs k []
 
 pub turn-lt : (k w : ℕ) → k < w + w → turn k w < w
 turn-lt k w h = go (decLt k w)

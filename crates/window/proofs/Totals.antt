@@ -1,11 +1,11 @@
 -- Sums over a list do not depend on its order, and follow a replaced element. Assumes nothing.
-use mathlib.Core.Path.{_≡_, refl, sym, ap, _∙_}
+use mathlib.Core.Path.{_≡_, refl, ap, _∙_}
 use mathlib.Core.List.{List, [], _∷_, _++_, List·Permᴰ, List·Permᴰ·nil, List·Permᴰ·cons, List·Permᴰ·swap, List·Permᴰ·trans}
 use Prim.Native.Nat.{ℕ, zero, suc, _+_, _*_, _<_, _≤_, zero-le}
-use native.Mathlib.Nat.{suc-mul, mul-add, mul-le-mul-right}
+use native.Mathlib.Nat.{suc-mul, mul-add}
 use native.Mathlib.Numerals.{add-one}
 use native.Mathlib.Omega.{arith}
-use lib.ListN.{length, take, drop, getD, set, take-append-drop}
+use lib.ListN.{length, take, getD, set}
 use lib.Seq.{take-suc}
 use Rattle.window.specs.Sums.{totalBy}
 
@@ -66,7 +66,3 @@ unfolding totalBy
 total-times f g m [] h = zero-le
 total-times f g m (x ∷ xs) h =
     omega (arith, mul-add m (f x) (total f xs), h 0 (omega arith), total-times f g m xs (λ i k. h (suc i) (omega arith)))
-
--- the sum of a part
-pub total-take-le : (f : ℕ → ℕ) (xs : List ℕ) (i : ℕ) → total f (take i xs) ≤ total f xs
-total-take-le f xs i = omega (arith, sym (total-append f (take i xs) (drop i xs)), ap (total f) (take-append-drop i xs))

@@ -1,25 +1,26 @@
 -- The window in a ring: a push of the ring is a push of the window, and the sums of a full window are those of all rows, since no sum
 -- depends on the order of the rows. Assumes nothing.
-use mathlib.Core.Path.{_≡_, refl, sym, ap, _∙_, subst}
+use mathlib.Core.Path.{_≡_, refl, sym, ap, _∙_}
 use mathlib.Core.List.{List, [], _∷_, _++_, map, append-assoc, append-nil, map-append, List·Permᴰ, Permᴰ·map, List·Permᴰ·append-comm}
-use Prim.Native.Nat.{ℕ, zero, suc, _+_, _-_, _*_, _%_, _<_, _≤_, min}
-use native.Mathlib.Nat.{mod-eq-of-lt, mod-self, add-left-comm, add-comm}
+use Prim.Native.Nat.{ℕ, zero, suc, _+_, _-_, _<_, _≤_, min}
+use native.Mathlib.Nat.{mod-eq-of-lt, mod-self, add-comm}
 use native.Mathlib.Numerals.{add-one}
 use native.Mathlib.Decide.{decLt}
 use native.Mathlib.Omega.{arith}
 use lib.ListN.{length, take, drop, getD, set, length-set, length-map, length-append, length-take, length-drop, take-append-drop, drop-of-length-le}
 use lib.Seq.{getD-take, getD-drop, take-nil, length-take-le, drop-cons, drop-set-lt, take-suc-set, take-all, drop-append-le, drop-drop}
-use Rattle.window.specs.Window.{column, pushRow, windowOf, nextSlot, filledAfter, turn}
-use Rattle.window.specs.Sums.{totalBy}
+use Rattle.num.proofs.Lists.{drop-map}
+use Rattle.window.specs.Window.{column, pushRow, windowOf, nextSlot, filledAfter}
+use Rattle.window.specs.Sums.{Summing, Lawful, columnSum}
 use Rattle.window.proofs.Totals.{total-perm}
 
 -- no order
 
-module _ {A : Type 0} (add : A → A → A) (none : A) (exchange : (a b c : A) → add a (add b c) ≡ add b (add a c)) (f : ℕ → A) where
+module _ (S : Summing) (lawful : Lawful S) (f : ℕ → S .Number) where
   -- the sums of a column are the same for every order of the rows
-  pub column-perm : {rows other : List (List ℕ)} → List·Permᴰ rows other → (sc : ℕ) → totalBy add none f (column rows sc) ≡ totalBy add none f (column other sc)
+  pub column-perm : {rows other : List (List ℕ)} → List·Permᴰ rows other → (sc : ℕ) → columnSum S f rows sc ≡ columnSum S f other sc
   unfolding column
-  column-perm p sc = total-perm add none exchange f (Permᴰ·map (λ (row : List ℕ). getD row sc 0) p)
+  column-perm p sc = total-perm (S .add) (S .none) (lawful .exchange) f (Permᴰ·map (λ (row : List ℕ). getD row sc 0) p)
 
 -- the rows in the order of time: from the next slot on, then from the first
 abbrev rotated : ℕ → List (List ℕ) → List (List ℕ)
@@ -85,14 +86,9 @@ last-push w next filled rows row h k len =
     (turned w filled (rotated next rows) row (omega arith) k (length-rotated next rows ∙ len))
 
 -- rows and their first n entries
-map-drop : (n d : ℕ) (rows : List (List ℕ)) → map (take n) (drop d rows) ≡ drop d (map (take n) rows)
-map-drop n zero rows = refl
-map-drop n (suc d) [] = refl
-map-drop n (suc d) (row ∷ rows) = map-drop n d rows
-
 map-push : (w n : ℕ) (window : List (List ℕ)) (row : List ℕ) → map (take n) (pushRow w window row) ≡ pushRow w (map (take n) window) (take n row)
 unfolding pushRow
-map-push w n window row = rw (length-map window (take n), map-drop n (length window + 1 - w) (window ++ (row ∷ [])), map-append (take n) window (row ∷ []))
+map-push w n window row = rw (length-map window (take n), ← drop-map (take n) (length window + 1 - w) (window ++ (row ∷ [])), map-append (take n) window (row ∷ []))
 
 -- a ring whose next slot gets a row: its window gets that row's first n entries
 pub window-push : (w next filled n : ℕ) (rows : List (List ℕ)) (row : List ℕ) → next < w → filled ≤ w → length rows ≡ w
@@ -116,15 +112,15 @@ column-taken n sc [] h = refl
 column-taken n sc (row ∷ rows) h = rw (getD-take n row sc 0 h, column-taken n sc rows h)
 
 -- the sums of a full window are those of all rows of the ring
-module _ {A : Type 0} (add : A → A → A) (none : A) (exchange : (a b c : A) → add a (add b c) ≡ add b (add a c)) (f : ℕ → A) where
+module _ (S : Summing) (lawful : Lawful S) (f : ℕ → S .Number) where
   pub window-total : (next n : ℕ) (rows : List (List ℕ)) (w : ℕ) → length rows ≡ w → (sc : ℕ) → sc < n
-      → totalBy add none f (column (windowOf next w n rows) sc) ≡ totalBy add none f (column rows sc)
+      → columnSum S f (windowOf next w n rows) sc ≡ columnSum S f rows sc
   unfolding windowOf
   window-total next n rows w len sc h =
       let all : length rows - w ≡ 0 = omega arith in
       rw (column-taken n sc (drop (length rows - w) (rotated next rows)) h, all)
-      (column-perm add none exchange f (List·Permᴰ·append-comm (drop next rows) (take next rows)) sc
-      ∙ ap (λ (l : List (List ℕ)). totalBy add none f (column l sc)) (take-append-drop next rows))
+      (column-perm S lawful f (List·Permᴰ·append-comm (drop next rows) (take next rows)) sc
+      ∙ ap (λ (l : List (List ℕ)). columnSum S f l sc) (take-append-drop next rows))
 
 -- each row has c entries
 abbrev pub Long : ℕ → List (List ℕ) → Type 0

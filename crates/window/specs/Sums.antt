@@ -5,7 +5,7 @@ use mathlib.Core.Bool.{Bool, _&&_, decide}
 use mathlib.Core.List.{List, [], _∷_}
 use Prim.Native.Nat.{ℕ, zero, suc, _+_, _*_, _/_, _≤_, _<_}
 use lib.Dec.{leb, eqb}
-use lib.ListN.{length, take, getD}
+use lib.ListN.{length, getD}
 use Rattle.num.specs.Tests.{allBelow}
 use Rattle.window.specs.Window.{maxRows, column, width, ringRows}
 
@@ -14,10 +14,6 @@ module _ {A : Type 0} (add : A → A → A) (none : A) (f : ℕ → A) where
   unfoldable pub totalBy : List ℕ → A
   totalBy [] = none
   totalBy (x ∷ xs) = add (f x) (totalBy xs)
-
--- the carried sums of f are the sums of the first c columns of the rows
-abbrev pub CarriedBy : {A : Type 0} (add : A → A → A) (none : A) (f : ℕ → A) → ℕ → List (List ℕ) → List A → Type 0
-CarriedBy add none f c rows sums = (sc : ℕ) → sc < c → getD sums sc none ≡ totalBy add none f (column rows sc)
 
 -- What a detector carries of each column: the sums of two functions of its entries, in one kind of number whose equality is decided
 pub record Summing : Type 1 where
@@ -33,17 +29,18 @@ pub record Lawful (S : Summing) : Type 0 where
   pub exchange : (a b c : S .Number) → S .add a (S .add b c) ≡ S .add b (S .add a c)
   pub cancel : (a x y : S .Number) → S .add a x ≡ S .add a y → x ≡ y
 
--- the sum of f, and that of g, over one column
-abbrev pub first : (S : Summing) → List (List ℕ) → ℕ → S .Number
-first S rows sc = totalBy (S .add) (S .none) (S .f) (column rows sc)
+-- the sum of a function over one column of the rows
+abbrev pub columnSum : (S : Summing) → (ℕ → S .Number) → List (List ℕ) → ℕ → S .Number
+columnSum S f rows sc = totalBy (S .add) (S .none) f (column rows sc)
 
-abbrev pub second : (S : Summing) → List (List ℕ) → ℕ → S .Number
-second S rows sc = totalBy (S .add) (S .none) (S .g) (column rows sc)
+-- the carried sums of a function are its sums over the first c columns of the rows
+abbrev pub CarriedBy : (S : Summing) → (ℕ → S .Number) → ℕ → List (List ℕ) → List (S .Number) → Type 0
+CarriedBy S f c rows sums = (sc : ℕ) → sc < c → getD sums sc (S .none) ≡ columnSum S f rows sc
 
--- carried sums fs and gs that are those of all c columns of the rows
+-- fs carries the sums of f, and gs those of g
 pub record Carried (S : Summing) (c : ℕ) (rows : List (List ℕ)) (fs gs : List (S .Number)) : Type 0 where
-  pub firsts : CarriedBy (S .add) (S .none) (S .f) c rows fs
-  pub seconds : CarriedBy (S .add) (S .none) (S .g) c rows gs
+  pub firsts : CarriedBy S (S .f) c rows fs
+  pub seconds : CarriedBy S (S .g) c rows gs
 
 -- The ring in memory: its size, and the sums carried beside it
 pub record Ring (S : Summing) (w c : ℕ) (bytes : List ℕ) (fs gs : List (S .Number)) : Type 0 where
@@ -53,7 +50,7 @@ pub record Ring (S : Summing) (w c : ℕ) (bytes : List ℕ) (fs gs : List (S .N
 
 -- the same as tests
 abbrev pub sumsAt : (S : Summing) → List (List ℕ) → (fs gs : List (S .Number)) → ℕ → Bool
-sumsAt S rows fs gs sc = decide (S .same (getD fs sc (S .none)) (first S rows sc)) && decide (S .same (getD gs sc (S .none)) (second S rows sc))
+sumsAt S rows fs gs sc = decide (S .same (getD fs sc (S .none)) (columnSum S (S .f) rows sc)) && decide (S .same (getD gs sc (S .none)) (columnSum S (S .g) rows sc))
 
 unfoldable pub isCarried : (S : Summing) → ℕ → List (List ℕ) → (fs gs : List (S .Number)) → Bool
 isCarried S c rows fs gs = allBelow c (sumsAt S rows fs gs)
@@ -71,4 +68,4 @@ unfoldable pub carriedMean : (S : Summing) → (ℕ → S .Number → S .Number 
 carriedMean S term w n fs gs = sumTo n (λ sc. term w (getD fs sc (S .none)) (getD gs sc (S .none))) / n
 
 unfoldable pub windowMean : (S : Summing) → (ℕ → S .Number → S .Number → ℕ) → List (List ℕ) → ℕ
-windowMean S term window = sumTo (width window) (λ sc. term (length window) (first S window sc) (second S window sc)) / width window
+windowMean S term window = sumTo (width window) (λ sc. term (length window) (columnSum S (S .f) window sc) (columnSum S (S .g) window sc)) / width window

@@ -1,7 +1,6 @@
 -- A window: the last rows of a detector, oldest first, and the ring in memory that shows it (csi.rs and phase.rs, `ring`, `next`, `filled`;
 -- vitals.rs likewise). A row is the list of its entries. Assumes nothing.
-use mathlib.Core.Path.{_≡_}
-use Prim.Native.Nat.{ℕ, zero, suc, _+_, _-_, _*_, _/_, _%_, min}
+use Prim.Native.Nat.{ℕ, zero, suc, _+_, _-_, _/_, _%_, min}
 use mathlib.Core.Bool.{cond}
 use mathlib.Core.List.{List, [], _∷_, _++_, map}
 use lib.Dec.{ltb}

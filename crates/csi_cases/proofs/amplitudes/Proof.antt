@@ -1,7 +1,6 @@
 -- `csi_cases::amplitudes` meets its contract. Assumes nothing.
 use mathlib.Core.Path.{_≡_}
 use Prim.Native.Nat.{_≤_, _-_}
-use native.Mathlib.Omega.{arith}
 use borrow.Author.Needs.{needs}
 use lib.ListN.{length}
 use Rattle.csi_cases.proofs.amplitudes.Statement.{statement}

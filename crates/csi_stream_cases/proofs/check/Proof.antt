@@ -1,8 +1,8 @@
 -- `csi_stream_cases::check` meets its contract. Assumes nothing.
 use Prim.Native.Nat.{_≤_, _<_, _+_, _-_, _*_}
+use native.Mathlib.Nat.{mul-le-mul}
 use native.Mathlib.Omega.{arith}
 use borrow.Author.Needs.{needs}
-use Rattle.num.proofs.Abs.{mul-le}
 use Rattle.csi_stream_cases.proofs.check.Statement.{statement}
 use Rattle.csi_stream_cases.proofs.check.Tie as tie
 
@@ -26,7 +26,7 @@ add-sum c = search needs
 
 -- one byte times its place
 product : (c : tie.After-wide Inv-loop μ-loop) → c .wide .result * (c .before .before .before .loop .i + 1) ≤ 255 * 150
-product c = mul-le {A = 255} {B = 150} (omega arith) (omega arith)
+product c = mul-le-mul {n₂ = 255} {m₂ = 150} (omega arith) (omega arith)
 
 mul-sum : tie.Need-mul-sum Inv-loop μ-loop
 mul-sum c = omega (arith, product c)

@@ -44,7 +44,7 @@ use Rattle.fall.specs.declared.FallDetector.{FallDetector}
 use Rattle.fall.specs.declared.Pushed.{Pushed}
 use Rattle.fall.specs.declared.Suspicion.{Suspicion}
 use Rattle.fall.specs.Promises.{Lent}
-use Rattle.fall.proofs.Whole.{Has, typed, lies-in, lies-out, Has-enum, has-enum, spelled-enum, typed-enum}
+use Rattle.num.proofs.Declared.{Has, typed, lies-in, lies-out, Has-enum, has-enum, spelled-enum, typed-enum}
 use Rattle.fall.proofs.FallDetector as D
 use Rattle.fall.proofs.FallDetector.Laws as D′
 use Rattle.fall.proofs.Pushed as P
@@ -77,16 +77,16 @@ suspicion-val = EL.val S.the-type S′.the-laws
 made : (d : FallDetector) (s : Suspicion) → Has D.the-type D′.the-laws d → Has-enum S.the-type S′.the-laws s → Has P.the-type P′.the-laws (record { detector = d; suspicion = s })
 made d s gd gs = LL.owes P.the-type P′.the-laws (record { detector = d; suspicion = s }) (gd, (gs, tt))
 
--- the contract of `push_mut`
-abbrev PushMut : {M : Type 1} (𝓤 : URA M) (H : Heap 𝓤) (A : Atoms 𝓤) (at-mem : Memory → SProp 𝓤) (run : Routine → Fun 𝓤) → Contract 𝓤
-PushMut 𝓤 H A at-mem run = tripleOf 𝓤 H A push-mut.signature (push-mut.spec 𝓤 H A at-mem run)
-
 module _ {M : Type 1} (𝓤 : URA M) (H : Heap 𝓤) (A : Atoms 𝓤) (W : Given 𝓤 H A) (at-mem : Memory → SProp 𝓤) (run : Routine → Fun 𝓤) (d : FallDetector) (w t : ℕ) (g : Has D.the-type D′.the-laws d) (w-fits : w < 2 ^ 16) (t-fits : t < 2 ^ 64) where
   abbrev x : FallDetector × (ℕ × (ℕ × Unit {0}))
   x = (d, (w, (t, tt)))
 
   abbrev at : List Val × (List Val × (List Val × Unit {0}))
   at = (detector-val d ∷ [], (vint w16 w ∷ [], (vint w64 t ∷ [], tt)))
+
+  -- the contract of `push_mut`
+  abbrev PushMut : Contract 𝓤
+  PushMut = tripleOf 𝓤 H A push-mut.signature (push-mut.spec 𝓤 H A at-mem run)
 
   abbrev Post : Val → SProp 𝓤
   Post = walkOf 𝓤 H A push-lent.ended stayed (push-lent.clauses 𝓤 H A at-mem run) .post ((tt, tt, tt, x, at), tt)
@@ -95,10 +95,10 @@ module _ {M : Type 1} (𝓤 : URA M) (H : Heap 𝓤) (A : Atoms 𝓤) (W : Given
   abbrev lent : ℕ → GName → RefT FallDetector × (ℕ × (ℕ × Unit {0}))
   lent l δ = (record { ptr = (l, 0); name = δ; now = d }, (w, (t, tt)))
 
-  abbrev to-push-mut : ℕ → ℕ → GName → PushMut 𝓤 H A at-mem run .Ghost
+  abbrev to-push-mut : ℕ → ℕ → GName → PushMut .Ghost
   to-push-mut l ν δ = (((ν ∷ [], tt), (fullShare, tt), tt, lent l δ, (vptr l 0 ∷ [], (vint w16 w ∷ [], (vint w64 t ∷ [], tt)))), tt)
 
-  asks : (l ν : ℕ) (δ : GName) → ent 𝓤 (sep 𝓤 (A .lft (ν ∷ []) fullShare) (sem 𝓤 H A (MutRef (named 0) (ν ∷ []) D.the-row .own (lent l δ .0) (vptr l 0 ∷ [])))) (PushMut 𝓤 H A at-mem run .pre (to-push-mut l ν δ))
+  asks : (l ν : ℕ) (δ : GName) → ent 𝓤 (sep 𝓤 (A .lft (ν ∷ []) fullShare) (sem 𝓤 H A (MutRef (named 0) (ν ∷ []) D.the-row .own (lent l δ .0) (vptr l 0 ∷ [])))) (PushMut .pre (to-push-mut l ν δ))
   asks l ν δ =
       qed W (‵ (flft (ν ∷ []) fullShare) ∷ ‵ (MutRef (named 0) (ν ∷ []) D.the-row .own (lent l δ .0) (vptr l 0 ∷ [])) ∷ []) ∵ nothing ! $ move ! (1 ∷ 0 ∷ []) $ join ! $
       nothing ! $ owned ! u64 (Is u64) (uint-makes 𝓤 H A W w64) t _ (refl, t-fits) $ fjoin ! $ owned ! u16 (Is u16) (uint-makes 𝓤 H A W w16) w _ (refl, w-fits) $ fjoin ! $ move ! (2 ∷ 0 ∷ []) $ fjoin ! $
@@ -113,7 +113,7 @@ module _ {M : Type 1} (𝓤 : URA M) (H : Heap 𝓤) (A : Atoms 𝓤) (W : Given
       owned ! D.the-row (Is D.the-row) (LL.makes D.the-type D′.the-plain 𝓤 H A) d _ g $ fjoin ! $
       owned ! P.the-row (Is P.the-row) (LL.makes P.the-type P′.the-plain 𝓤 H A) (record { detector = d′; suspicion = s }) _ (made d′ s gd gs) $ move ! (1 ∷ 0 ∷ []) $ nothing ! $ done !
 
-  module _ (C : Calls 𝓤 H) (Λ : Loops 𝓤 H) (fm : FmC 𝓤 H (W .laws) C) (known : Triple 𝓤 (C #push-mut) (PushMut 𝓤 H A at-mem run)) where
+  module _ (C : Calls 𝓤 H) (Λ : Loops 𝓤 H) (fm : FmC 𝓤 H (W .laws) C) (known : Triple 𝓤 (C #push-mut) PushMut) where
     walk : ent 𝓤 (onEntry 𝓤 H A push-lent.signature tt tt x at) (WpFn 𝓤 H C Λ code.function (detector-val d ∷ vint w16 w ∷ vint w64 t ∷ []) Post)
     walk =
         qed W (‵ ftrue ∷ ‵ (owns (D.the-row ∷ u16 ∷ u64 ∷ []) x at) ∷ []) ∵ enter ! C Λ code.function (detector-val d ∷ vint w16 w ∷ vint w64 t ∷ []) _ $
@@ -127,8 +127,8 @@ module _ {M : Type 1} (𝓤 : URA M) (H : Heap 𝓤) (A : Atoms 𝓤) (W : Given
         lft-new ! tt (λ ν. move ! (1 ∷ []) $
         use1 W (later (some (λ (δ : GName). ‵ (MutRef (named 0) (ν ∷ []) D.the-row .own (lent l₄ δ .0) (vptr l₄ 0 ∷ [])) ⊛ ‵ (flent (ν ∷ []) (Body (mem D.the-row) l₄ 0 δ))))) (lends-ref 𝓤 H A W D.the-row (named 0) (ν ∷ []) d l₄ 0) $ await ! tt $ pick ! (λ δ. split ! $
         -- the call
-        move ! (2 ∷ 0 ∷ []) $ use2 W (raw (PushMut 𝓤 H A at-mem run .pre (to-push-mut l₄ ν δ))) (asks l₄ ν δ) $
-        calls-at ! fm (PushMut 𝓤 H A at-mem run) known (to-push-mut l₄ ν δ) (and-then ! (load ! (from ! (stop !)) (look ! 4 refl)) (and-then ! (load ! (from ! (stop !)) (look ! 11 refl)) (and-then ! (load ! (from ! (stop !)) (look ! 9 refl)) (no-more !)))) (λ v.
+        move ! (2 ∷ 0 ∷ []) $ use2 W (raw (PushMut .pre (to-push-mut l₄ ν δ))) (asks l₄ ν δ) $
+        calls-at ! fm PushMut known (to-push-mut l₄ ν δ) (and-then ! (load ! (from ! (stop !)) (look ! 4 refl)) (and-then ! (load ! (from ! (stop !)) (look ! 11 refl)) (and-then ! (load ! (from ! (stop !)) (look ! 9 refl)) (no-more !)))) (λ v.
         use1 W (later (some (λ (s : Suspicion). ((‵ (flft (ν ∷ []) fullShare) ⊛ ‵ ftrue) ⊛ ‵ (S.the-row .own s (v ∷ []))) ⊛ raw (ensured 𝓤 H A push-mut.ended (push-mut.clauses 𝓤 H A at-mem run) (ν ∷ [], tt) (lent l₄ δ) tt s)))) (id⊢ 𝓤 _) $ await ! tt $ pick ! (λ s.
         split ! $ move ! (1 ∷ []) $ use1 W (some (λ (zs : FallDetector × (Unit {0} × (Unit {0} × Unit {0}))). ‵ (lasts push-mut.ended (ν ∷ [], tt) (lent l₄ δ) zs) ⊛ raw (fact 𝓤 (Lent d w t (zs .0) s)))) (id⊢ 𝓤 _) $ pick ! (λ zs.
         split ! $ move ! (1 ∷ []) $ heard ! (Lent d w t (zs .0) s) (λ e. fsplit ! $
@@ -146,7 +146,7 @@ module _ {M : Type 1} (𝓤 : URA M) (H : Heap 𝓤) (A : Atoms 𝓤) (W : Given
         move ! (6 ∷ 7 ∷ []) $ free1 ! $ move ! (4 ∷ 5 ∷ []) $ free1 ! $ move ! (2 ∷ 3 ∷ []) $ free1 ! $ free0 ! $ keep ! (0 ∷ []) $ by ! (exits (zs .0) s e gd (has-enum S.the-type S′.the-laws s (v ∷ []) is))))))))))))))))))
 
 module _ {M : Type 1} (𝓤 : URA M) (H : Heap 𝓤) (A : Atoms 𝓤) (W : Given 𝓤 H A) (at-mem : Memory → SProp 𝓤) (run : Routine → Fun 𝓤) where
-  push-lent-walks : (C : Calls 𝓤 H) (Λ : Loops 𝓤 H) → FmC 𝓤 H (W .laws) C → Triple 𝓤 (C #push-mut) (PushMut 𝓤 H A at-mem run)
+  push-lent-walks : (C : Calls 𝓤 H) (Λ : Loops 𝓤 H) → FmC 𝓤 H (W .laws) C → Meets 𝓤 H A push-mut.signature (C #push-mut) (push-mut.spec 𝓤 H A at-mem run)
       → Walks 𝓤 H A push-lent.ended stayed (WpFn 𝓤 H C Λ code.function) (push-lent.clauses 𝓤 H A at-mem run)
   push-lent-walks C Λ fm known = walked 𝓤 H A push-lent.ended stayed (push-lent.clauses 𝓤 H A at-mem run) (WpFn 𝓤 H C Λ code.function)
       (λ κs. (LL.vals D.the-type D′.the-laws, (uint-vals w16, (uint-vals w64, tt)))) (λ κs. (LL.tells D.the-type D′.the-laws, (uint-tells w16, (uint-tells w64, tt))))
@@ -155,7 +155,7 @@ module _ {M : Type 1} (𝓤 : URA M) (H : Heap 𝓤) (A : Atoms 𝓤) (W : Given
   goes : AllGo 𝓤 H A W 0 (push-lent.signature .params) (push-lent.ended .kept) stayed
   goes = (goes-none 𝓤 H A W 0 (λ _. D.the-row) yes (λ κs x f. refl), (goes-none 𝓤 H A W 0 (λ _. u16) yes (λ κs x f. refl), (goes-none 𝓤 H A W 0 (λ _. u64) yes (λ κs x f. refl), tt)))
 
-push-lent-meets : {M : Type 1} (𝓤 : URA M) (H : Heap 𝓤) (A : Atoms 𝓤) → Given 𝓤 H A → (at-mem : Memory → SProp 𝓤) (run : Routine → Fun 𝓤) (𝓣 : Tables 𝓤 H) → Triple 𝓤 (𝓣 .C #push-mut) (PushMut 𝓤 H A at-mem run)
+push-lent-meets : {M : Type 1} (𝓤 : URA M) (H : Heap 𝓤) (A : Atoms 𝓤) → Given 𝓤 H A → (at-mem : Memory → SProp 𝓤) (run : Routine → Fun 𝓤) (𝓣 : Tables 𝓤 H) → Meets 𝓤 H A push-mut.signature (𝓣 .C #push-mut) (push-mut.spec 𝓤 H A at-mem run)
     → Meets 𝓤 H A push-lent.signature (WpFn 𝓤 H (𝓣 .C) (𝓣 .Λ) code.function) (push-lent.spec 𝓤 H A at-mem run)
 push-lent-meets 𝓤 H A W at-mem run 𝓣 known =
     walk-meets 𝓤 H A push-lent.ended stayed W (goes 𝓤 H A W at-mem run) (push-lent.clauses 𝓤 H A at-mem run) (WpFn 𝓤 H (𝓣 .C) (𝓣 .Λ) code.function) (WpFn-mono 𝓤 H (W .laws) 𝓣 code.function)
@@ -167,4 +167,4 @@ push-lent-spec 𝓤 H 𝓜 𝓖 𝓡 =
     entered 𝓤 H (tripleOf 𝓤 H (𝓖 .A) push-lent.signature (push-lent.spec 𝓤 H (𝓖 .A) (𝓜 .mem) (𝓡 .run)))
     (tables 𝓤 H 𝓜 𝓡 code.env .C) (tables 𝓤 H 𝓜 𝓡 code.env .Λ) #push-lent code.function (code.unfolded 𝓤 H 𝓜 𝓡)
     (push-lent-meets 𝓤 H (𝓖 .A) (givenOf 𝓤 H 𝓜 𝓖) (𝓜 .mem) (𝓡 .run) (tablesOf 𝓤 H 𝓜 (tables 𝓤 H 𝓜 𝓡 code.env))
-    (cited 𝓤 H (PushMut 𝓤 H (𝓖 .A) (𝓜 .mem) (𝓡 .run)) 𝓜 𝓡 code.env #push-mut push-mut-def.routine code.calls-fall·push-mut (push-mut-thm.met 𝓤 H 𝓜 𝓖 𝓡)))
+    (cited 𝓤 H (tripleOf 𝓤 H (𝓖 .A) push-mut.signature (push-mut.spec 𝓤 H (𝓖 .A) (𝓜 .mem) (𝓡 .run))) 𝓜 𝓡 code.env #push-mut push-mut-def.routine code.calls-fall·push-mut (push-mut-thm.met 𝓤 H 𝓜 𝓖 𝓡)))

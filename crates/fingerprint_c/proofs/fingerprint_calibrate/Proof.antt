@@ -1,5 +1,5 @@
 -- `fingerprint_c::fingerprint_calibrate` meets its contract. Assumes nothing.
-use mathlib.Core.Path.{_≡_, sym, ap, _∙_}
+use mathlib.Core.Path.{sym, ap, _∙_}
 use borrow.Author.Needs.{needs}
 use Rattle.fingerprint.specs.Baseline.{calibratedNumber, standing}
 use Rattle.fingerprint_c.proofs.fingerprint_calibrate.Statement.{statement}

@@ -1,7 +1,8 @@
 -- `num::dot_i16` meets its contract: the sum so far and that of the rest make the whole. Assumes nothing.
-use mathlib.Core.Path.{_≡_, refl, sym, ap, _∙_}
-use mathlib.Core.List.{List, [], _∷_}
+use mathlib.Core.Path.{_≡_, sym, ap, _∙_}
+use mathlib.Core.List.{List}
 use Prim.Native.Nat.{ℕ, suc, _+_, _-_, _*_, _^_, _≤_, _<_, min}
+use native.Mathlib.Nat.{mul-le-mul}
 use native.Mathlib.Numerals.{add-one}
 use native.Mathlib.Omega.{arith}
 use borrow.Author.Needs.{needs, sfits-of}
@@ -9,10 +10,10 @@ use lib.IntN.{ℤ, pos, natAbs, _+ℤ_, _*ℤ_, +ℤ-idl, +ℤ-idr, +ℤ-assoc}
 use lib.ListN.{length, getD, take, drop}
 use lib.Seq.{drop-cons}
 use mir.Syntax.{w16, w64}
-use mir.Val.{SFits, toZ, ofZ}
+use mir.Val.{SFits, toZ}
 use mir.Facts.{toZ-ofZ}
 use Rattle.num.specs.Sum.{dotZ, maxTerms}
-use Rattle.num.proofs.Abs.{sfits-abs, abs-sfits, abs-add, abs-mul, mul-le}
+use Rattle.num.proofs.Abs.{sfits-abs, abs-sfits, abs-add, abs-mul}
 use Rattle.num.proofs.Fill.{next, done}
 use Rattle.num.proofs.Sum.{dot-terms}
 use Rattle.num.proofs.Read.{to64, read-16-64}
@@ -41,7 +42,7 @@ module _ {xs ys : List ℤ} {n : ℕ} {sum : ℤ} {k : ℕ} (w : Summed xs ys n 
   term-small : natAbs term ≤ 2 ^ 30
   term-small =
       let x = getD xs k (pos 0) in let y = getD ys k (pos 0) in
-      omega (arith, abs-mul x y, mul-le (abs-sfits x fx) (abs-sfits y fy))
+      omega (arith, abs-mul x y, mul-le-mul (abs-sfits x fx) (abs-sfits y fy))
 
   next-small : natAbs (sum +ℤ term) ≤ 2 ^ 30 * (k + 1)
   next-small = omega (arith, abs-add sum term, w .small, term-small)

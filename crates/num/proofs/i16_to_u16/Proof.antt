@@ -1,6 +1,6 @@
 -- `num::i16_to_u16` meets its contract: below 0 the bits are x + 65,536, else x. Assumes nothing.
-use mathlib.Core.Path.{_≡_, ap}
-use Prim.Native.Nat.{_≤_, _<_}
+use mathlib.Core.Path.{ap}
+use Prim.Native.Nat.{_<_}
 use native.Mathlib.Omega.{arith}
 use lib.IntN.{ℤ, pos, negsuc, natAbs, _+ℤ_}
 use mir.Syntax.{w16, w32}

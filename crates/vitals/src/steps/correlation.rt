@@ -1,8 +1,7 @@
 // Sums of products of samples that are a lag apart, and what the columns' come to (vitals.rs, `estimate`).
 ghost use mathlib.Core.Path.{_≡_};
-ghost use mathlib.Core.Bool.{true};
-ghost use Prim.Native.Nat.{ℕ, _+_, _-_, _*_, _≤_, _<_};
-ghost use lib.ListN.{length, take, drop};
+ghost use Prim.Native.Nat.{_+_, _-_, _*_, _≤_, _<_};
+ghost use lib.ListN.{length, take};
 ghost use lib.IntN.{pos, negsuc, natAbs, _+ℤ_};
 ghost use Rattle.num.specs.Sum.{dotZ};
 ghost use Rattle.num.specs.Clamp.{clampZ};

@@ -1,19 +1,16 @@
 -- `csi::amplitude::digit` meets its contract. Assumes nothing.
-use Prim.Native.Nat.{ℕ, _+_, _*_, _≤_}
+use Prim.Native.Nat.{_+_, _≤_}
 use native.Mathlib.Omega.{arith}
 use native.Mathlib.Nat.{mul-le-mul}
 use borrow.Author.Needs.{needs}
 use Rattle.csi.proofs.amplitude.digit.Statement.{statement}
 use Rattle.csi.proofs.amplitude.digit.Tie as tie
 
-square-le : {t : ℕ} → t ≤ 255 → t * t ≤ 65025
-square-le h = mul-le-mul h h
-
 add-t : tie.Need-add-t
 add-t c = search needs
 
 mul-if1 : tie.Need-mul-if1
-mul-if1 c = let h : c .args .r + c .args .bit ≤ 255 = omega (arith, c .pre .0, c .pre .1 .byte) in omega (arith, square-le h)
+mul-if1 c = let h : c .args .r + c .args .bit ≤ 255 = omega (arith, c .pre .0, c .pre .1 .byte) in omega (arith, mul-le-mul h h)
 
 returns : tie.Need-returns
 returns c = search needs

@@ -1,11 +1,10 @@
 -- `csi::moments::described` meets its contract. Assumes nothing.
-use mathlib.Core.Path.{_≡_, ap, sym, _∙_}
-use Prim.Native.Nat.{ℕ, _*_, _/_, _≤_}
+use mathlib.Core.Path.{_≡_, ap}
+use Prim.Native.Nat.{_/_}
 use native.Mathlib.Omega.{arith}
 use borrow.Author.Needs.{needs}
 use lib.ListN.{length, take}
 use lib.Seq.{length-take-le}
-use Rattle.num.specs.Sum.{total}
 use Rattle.num.proofs.Sum.{mean-le}
 use Rattle.csi.specs.Features.{meanOf}
 use Rattle.csi.specs.Layout.{maxSubcarriers}

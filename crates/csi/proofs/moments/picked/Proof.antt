@@ -1,10 +1,10 @@
 -- `csi::moments::picked` meets its contract. Assumes nothing.
 use mathlib.Core.Path.{_≡_, ap, sym, _∙_}
 use mathlib.Core.List.{List, map}
-use Prim.Native.Nat.{ℕ, _+_, _-_, _*_, _≤_, _<_}
+use Prim.Native.Nat.{ℕ, _-_, _≤_, _<_}
 use native.Mathlib.Omega.{arith}
 use borrow.Author.Needs.{needs}
-use lib.ListN.{length, getD, take, length-map}
+use lib.ListN.{length, getD, length-map}
 use Rattle.num.proofs.Row.{Filled, none-filled, turn, finish}
 use Rattle.csi.specs.Layout.{maxSubcarriers, entriesOf}
 use Rattle.csi.proofs.Entries.{inside}

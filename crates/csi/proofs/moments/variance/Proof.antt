@@ -1,14 +1,13 @@
 -- `csi::moments::variance` meets its contract: each difference is at most 65,535, so the mean of their squares fits 32 bits.
 -- Assumes nothing.
-use mathlib.Core.Path.{_≡_, ap, sym, subst, _∙_}
-use mathlib.Core.List.{List, map}
-use Prim.Native.Nat.{ℕ, _+_, _-_, _*_, _/_, _≤_, _<_}
+use mathlib.Core.Path.{_≡_, ap, sym, _∙_}
+use Prim.Native.Nat.{ℕ, _-_, _*_}
 use native.Mathlib.Omega.{arith}
 use native.Mathlib.Nat.{mul-le-mul}
 use borrow.Author.Needs.{needs}
 use lib.ListN.{length, getD, take}
 use lib.Seq.{length-take-le, getD-take}
-use Rattle.num.specs.Sum.{total, apart, square}
+use Rattle.num.specs.Sum.{apart, square}
 use Rattle.num.proofs.Row.{Added, none-added, add, all-added}
 use Rattle.num.proofs.Sum.{mean-le}
 use Rattle.csi.specs.Features.{varianceFrom}
@@ -40,14 +39,11 @@ abs-diff-u16-requires c κs = search needs
 count : (c : tie.Start Inv-loop μ-loop) → length (take (c .args .n) (c .args .amplitude .now)) ≡ c .args .n
 count c = length-take-le (c .args .n) (c .args .amplitude .now) (omega arith)
 
-square-le : {d : ℕ} → d ≤ 65535 → d * d ≤ 65535 * 65535
-square-le h = mul-le-mul h h
-
 mul-sum : tie.Need-mul-sum Inv-loop μ-loop
-mul-sum c = omega (arith, square-le (c .abs-diff-u16 .ensures .1))
+mul-sum c = let h = c .abs-diff-u16 .ensures .1 in omega (arith, mul-le-mul h h)
 
 add-sum : tie.Need-add-sum Inv-loop μ-loop
-add-sum c = omega (arith, c .before .before .before .loop .inv .small, square-le (c .abs-diff-u16 .ensures .1))
+add-sum c = let h = c .abs-diff-u16 .ensures .1 in omega (arith, c .before .before .before .loop .inv .small, mul-le-mul h h)
 
 add-k : tie.Need-add-k Inv-loop μ-loop
 add-k c = search needs
@@ -57,10 +53,10 @@ loop-less c = search needs
 
 loop-again : tie.Need-loop-again Inv-loop μ-loop
 loop-again c =
-    let t = c .before .before in let l = t .before in let a = l .before in let d = c .abs-diff-u16 .result in
+    let t = c .before .before in let l = t .before in let a = l .before in let d = c .abs-diff-u16 .result in let h = c .abs-diff-u16 .ensures .1 in
     let e : d ≡ apart (getD (take (a .args .n) (a .args .amplitude .now)) (l .loop .k) 0) (a .args .mean) =
     c .abs-diff-u16 .ensures .0 ∙ ap (λ x. apart x (a .args .mean)) (sym (getD-take (a .args .n) (a .args .amplitude .now) (l .loop .k) 0 (t .loop-test .taken))) in
-    add (l .loop .inv) (d * d) (ap square e) (square-le (c .abs-diff-u16 .ensures .1)) (omega (arith, count a, t .loop-test .taken))
+    add (l .loop .inv) (d * d) (ap square e) (mul-le-mul h h) (omega (arith, count a, t .loop-test .taken))
 
 div-result : tie.Need-div-result Inv-loop μ-loop
 div-result c = search needs

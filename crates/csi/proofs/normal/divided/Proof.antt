@@ -1,12 +1,11 @@
 -- `csi::normal::divided` meets its contract. Assumes nothing.
 use mathlib.Core.Path.{_≡_, ap, sym, subst, _∙_}
 use mathlib.Core.List.{List, map}
-use Prim.Native.Nat.{ℕ, _+_, _-_, _*_, _/_, _^_, min, _≤_, _<_}
+use Prim.Native.Nat.{ℕ, _-_, _*_, _/_, _^_, min, _≤_, _<_}
 use native.Mathlib.Omega.{arith}
 use borrow.Author.Needs.{needs}
 use lib.ListN.{length, getD, take, length-map}
 use lib.Seq.{length-take-le, getD-take}
-use Rattle.num.specs.Sum.{total}
 use Rattle.num.proofs.Map.{element-le}
 use Rattle.num.proofs.Row.{Filled, none-filled, turn, finish}
 use Rattle.csi.specs.Features.{scale}

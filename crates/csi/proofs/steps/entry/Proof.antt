@@ -1,6 +1,6 @@
 -- `csi::steps::entry` meets its contract: an entry of the first range or of the second. Assumes nothing.
-use mathlib.Core.Path.{_≡_, ap, sym, _∙_}
-use Prim.Native.Nat.{ℕ, _+_, _-_, _<_}
+use mathlib.Core.Path.{ap, _∙_}
+use Prim.Native.Nat.{_+_, _-_}
 use native.Mathlib.Omega.{arith}
 use borrow.Author.Needs.{needs}
 use Rattle.csi.proofs.Entries.{length-entries, first, second}

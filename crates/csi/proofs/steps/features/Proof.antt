@@ -1,13 +1,13 @@
 -- `csi::steps::features` meets its contract. Assumes nothing.
-use mathlib.Core.Path.{_≡_, sym, ap, subst, _∙_}
+use mathlib.Core.Path.{sym, ap, subst, _∙_}
 use mathlib.Core.List.{map}
-use Prim.Native.Nat.{ℕ, _≤_, _<_}
+use Prim.Native.Nat.{_≤_}
 use native.Mathlib.Omega.{arith}
 use borrow.Author.Needs.{needs}
 use lib.ListN.{length, getD}
 use Rattle.num.proofs.Map.{map-agree}
 use Rattle.csi.specs.Features.{amplitudeAt, describe, featuresOf}
-use Rattle.csi.specs.Layout.{layoutOf, entriesOf, needOf, Usable}
+use Rattle.csi.specs.Layout.{entriesOf, needOf, Usable}
 use Rattle.csi.proofs.Answers.{served}
 use Rattle.csi.proofs.Entries.{inside, usable}
 use Rattle.csi.proofs.steps.features.Statement.{statement}

@@ -1,5 +1,5 @@
 -- `detector::steps::last_after` meets its contract. Assumes nothing.
-use borrow.Author.Tests.{le-leb, lt-leb, eq-eqb, ne-eqb}
+use borrow.Author.Tests.{le-leb, lt-leb}
 use Rattle.detector.proofs.steps.last_after.Statement.{statement}
 use Rattle.detector.proofs.steps.last_after.Tie as tie
 

@@ -1,6 +1,6 @@
 -- `detector::steps::next_state` meets its contract. Assumes nothing.
 use mathlib.Core.Path.{_≡_}
-use Prim.Native.Nat.{ℕ, _+_, min}
+use Prim.Native.Nat.{_+_, min}
 use native.Mathlib.Omega.{arith}
 use borrow.Author.Needs.{needs}
 use Rattle.detector.proofs.steps.next_state.Statement.{statement}

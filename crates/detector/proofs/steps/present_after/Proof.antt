@@ -1,5 +1,5 @@
 -- `detector::steps::present_after` meets its contract: each return rewrites with the tests on its way. Assumes nothing.
-use borrow.Author.Tests.{le-leb, lt-leb, eq-eqb, ne-eqb}
+use borrow.Author.Tests.{le-leb, lt-leb}
 use borrow.Author.Needs.{needs}
 use Rattle.detector.proofs.steps.present_after.Statement.{statement}
 use Rattle.detector.proofs.steps.present_after.Tie as tie

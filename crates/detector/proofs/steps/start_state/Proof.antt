@@ -1,5 +1,5 @@
 -- `detector::steps::start_state` meets its contract. Assumes nothing.
-use borrow.Author.Tests.{le-leb, lt-leb, eq-eqb, ne-eqb}
+use borrow.Author.Tests.{eq-eqb, ne-eqb}
 use Rattle.detector.proofs.steps.start_state.Statement.{statement}
 use Rattle.detector.proofs.steps.start_state.Tie as tie
 

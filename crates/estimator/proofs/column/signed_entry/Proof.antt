@@ -6,7 +6,6 @@ use lib.IntN.{pos}
 use mir.Facts.{toZ-ofZ, toZ-pos}
 use borrow.Author.Needs.{needs, sfits-of}
 use Rattle.num.specs.Wrap.{wrap16}
-use borrow.Author.Needs.{needs}
 use Rattle.estimator.proofs.column.signed_entry.Statement.{statement}
 use Rattle.estimator.proofs.column.signed_entry.Tie as tie
 

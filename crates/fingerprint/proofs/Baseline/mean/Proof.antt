@@ -1,5 +1,5 @@
 -- `fingerprint::Baseline::mean` meets its contract. Assumes nothing.
-use mathlib.Core.Path.{_≡_, sym, _∙_}
+use mathlib.Core.Path.{sym, _∙_}
 use Rattle.fingerprint.proofs.Answers.{mean-bad, mean-good}
 use borrow.Author.Needs.{needs}
 use Rattle.fingerprint.proofs.Baseline.mean.Statement.{statement}

@@ -1,8 +1,5 @@
 -- `fingerprint::steps::mean` meets its contract. Assumes nothing.
-use mathlib.Core.Path.{_≡_}
-use Prim.Native.Nat.{ℕ, _*_, _/_, _≤_}
 use native.Mathlib.Omega.{arith}
-use native.Mathlib.Nat.{mul-comm}
 use borrow.Author.Tests.{eq-eqb, ne-eqb}
 use Rattle.num.proofs.Sum.{mean-le}
 use Rattle.fingerprint.specs.Baseline.{meanOf}

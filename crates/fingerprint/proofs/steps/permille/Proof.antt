@@ -1,5 +1,5 @@
 -- `fingerprint::steps::permille` meets its contract. Assumes nothing.
-use mathlib.Core.Path.{_≡_, ap, sym, _∙_}
+use mathlib.Core.Path.{_≡_}
 use Prim.Native.Nat.{ℕ, min, _*_, _/_, _≤_, _<_}
 use native.Mathlib.Omega.{arith}
 use borrow.Author.Tests.{ne-eqb}
@@ -10,16 +10,13 @@ use Rattle.fingerprint.proofs.steps.permille.Statement.{statement}
 use Rattle.fingerprint.proofs.steps.permille.Tie as tie
 
 module _ (m v d : ℕ) (some : 1 ≤ m) (ed : d ≡ apart v m) where
-  not-zero : m ≡ 0 → ⊥
-  not-zero e = omega arith
-
   low : d * 1000 / m < 65535 → d * 1000 / m ≡ distanceFrom m v
   unfolding distanceFrom
-  low h = let e : d * 1000 / m ≡ min 65535 (d * 1000 / m) = omega arith in rw (ne-eqb m 0 not-zero, ← ed) e
+  low h = let e : d * 1000 / m ≡ min 65535 (d * 1000 / m) = omega arith in rw (ne-eqb m 0 (λ z. omega arith), ← ed) e
 
   high : 65535 ≤ d * 1000 / m → 65535 ≡ distanceFrom m v
   unfolding distanceFrom
-  high h = let e : 65535 ≡ min 65535 (d * 1000 / m) = omega arith in rw (ne-eqb m 0 not-zero, ← ed) e
+  high h = let e : 65535 ≡ min 65535 (d * 1000 / m) = omega arith in rw (ne-eqb m 0 (λ z. omega arith), ← ed) e
 
 abs-diff-u32-requires : tie.Need-abs-diff-u32-requires
 abs-diff-u32-requires c κs = search needs

@@ -1,5 +1,4 @@
 -- `phase::frame::angles` meets its contract: the angles of the one range, and behind them those of the other. Assumes nothing.
-use Prim.Native.Nat.{_-_}
 use native.Mathlib.Omega.{arith}
 use borrow.Author.Needs.{needs}
 use Rattle.csi.proofs.Entries.{length-entries}

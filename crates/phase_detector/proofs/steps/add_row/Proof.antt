@@ -1,18 +1,16 @@
 -- `phase_detector::steps::add_row` meets its contract: the loop of `Check.Adding`, whose sums are no larger than their rows allow. Assumes nothing.
-use mathlib.Core.Path.{_≡_, refl, sym, _∙_}
-use mathlib.Core.List.{List}
-use Prim.Native.Nat.{ℕ, _+_, _-_, _*_, _≤_, _<_}
+use mathlib.Core.Path.{_≡_}
+use Prim.Native.Nat.{_-_, _<_}
 use native.Mathlib.Omega.{arith}
 use borrow.Author.Needs.{needs, sfits-of}
-use lib.IntN.{ℤ, pos, natAbs, _+ℤ_}
-use lib.ListN.{length, getD}
+use lib.IntN.{pos}
+use lib.ListN.{getD}
 use mir.Syntax.{w32}
-use mir.Val.{SFits, toZ, ofZ}
+use mir.Val.{toZ, ofZ}
 use mir.Facts.{toZ-ofZ}
 use Rattle.window.specs.Window.{columns}
 use Rattle.window.proofs.Ring.{entry-within}
 use Rattle.window.proofs.Check.{Adding, add-start, add-turn, add-end}
-use Rattle.vectors.specs.Tables.{sinQuarter}
 use Rattle.phase_detector.specs.Wander.{angles, ColumnRange}
 use Rattle.phase_detector.proofs.Angles.{lawful, part-range}
 use Rattle.phase_detector.proofs.steps.add_row.Statement.{statement}

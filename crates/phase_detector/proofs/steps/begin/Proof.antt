@@ -1,6 +1,5 @@
 -- `phase_detector::steps::begin` meets its contract. Assumes nothing.
-use mathlib.Core.Path.{_≡_, refl}
-use Prim.Native.Nat.{ℕ}
+use mathlib.Core.Path.{refl}
 use borrow.Author.Needs.{needs}
 use lib.ListN.{replicate}
 use Rattle.window.specs.Window.{columns}

@@ -1,17 +1,14 @@
 -- `phase_detector::steps::compute_wander` meets its contract. The loop's invariant: the total is that of the columns passed, each at most a million. Assumes nothing.
-use mathlib.Core.Path.{_≡_, refl, sym, ap, _∙_}
+use mathlib.Core.Path.{_≡_, refl, ap, _∙_}
 use mathlib.Core.List.{List}
-use Prim.Native.Nat.{ℕ, suc, _+_, _-_, _*_, _/_, _≤_, _<_, _^_}
+use Prim.Native.Nat.{ℕ, _-_, _*_, _/_, _≤_}
 use native.Mathlib.Omega.{arith}
 use borrow.Author.Needs.{needs, sfits-of}
-use borrow.Author.Tests.{lt-ltb}
-use lib.IntN.{ℤ, pos, natAbs}
+use lib.IntN.{ℤ, pos}
 use lib.ListN.{getD}
 use mir.Syntax.{w32}
-use mir.Val.{SFits, toZ, ofZ}
-use mir.Facts.{toZ-ofZ, toZ-pos}
-use Rattle.num.proofs.Abs.{sfits-abs}
-use Rattle.window.specs.Window.{columns}
+use mir.Val.{toZ, ofZ}
+use mir.Facts.{toZ-ofZ}
 use Rattle.window.specs.Sums.{sumTo, carriedMean}
 use Rattle.window.proofs.Mean.{sumTo-more}
 use Rattle.vectors.specs.Vector.{columnPpm}

@@ -1,13 +1,14 @@
 -- `phase_detector::steps::moved` meets its contract. Assumes nothing.
-use mathlib.Core.Path.{_≡_, refl, sym, ap, _∙_}
-use Prim.Native.Nat.{ℕ, _^_, _≤_, _<_}
+use mathlib.Core.Path.{_≡_}
+use Prim.Native.Nat.{_^_, _≤_}
 use native.Mathlib.Omega.{arith}
 use borrow.Author.Needs.{needs}
-use lib.IntN.{ℤ, pos, negℤ, natAbs, _+ℤ_, _-ℤ_, +ℤ-assoc, +ℤ-comm, +ℤ-invl, +ℤ-idl}
+use lib.IntN.{ℤ, natAbs, _+ℤ_, _-ℤ_}
 use mir.Syntax.{w32}
 use mir.Val.{SFits, toZ, ofZ}
 use mir.Facts.{toZ-ofZ}
-use Rattle.num.proofs.Abs.{sfits-abs, abs-add, abs-sub}
+use Rattle.num.proofs.Abs.{abs-sub, add-fits, sub-fits}
+use Rattle.num.proofs.AddZ.{term-replaced}
 use Rattle.vectors.specs.Vector.{cosAt, sinAt}
 use Rattle.vectors.proofs.Sizes.{cos-le, sine-le}
 use Rattle.phase_detector.proofs.Angles.{component}
@@ -20,17 +21,9 @@ record Moved (sum old new : ℤ) : Type 0 where
   next : SFits w32 (sum -ℤ old +ℤ new)
   moved : old +ℤ (sum -ℤ old +ℤ new) ≡ new +ℤ sum
 
-swap-terms : (sum old new : ℤ) → old +ℤ (sum -ℤ old +ℤ new) ≡ new +ℤ sum
-swap-terms sum old new =
-    sym (+ℤ-assoc old (sum -ℤ old) new) ∙ ap (λ (z : ℤ). z +ℤ new) (back sum old) ∙ +ℤ-comm sum new
-  where
-    back : (a b : ℤ) → b +ℤ (a -ℤ b) ≡ a
-    back a b = +ℤ-comm b (a -ℤ b) ∙ +ℤ-assoc a (negℤ b) b ∙ ap (λ (z : ℤ). a +ℤ z) (+ℤ-invl b) ∙ +ℤ-comm a (pos 0) ∙ +ℤ-idl a
-
 moved-by : (sum old new : ℤ) → natAbs sum ≤ 2 ^ 27 → natAbs old ≤ 16384 → natAbs new ≤ 16384 → Moved sum old new
 moved-by sum old new hs ho hn =
-    let la = abs-sub sum old in let lb = abs-add (sum -ℤ old) new in
-    record { less = sfits-abs (sum -ℤ old) (omega arith); next = sfits-abs (sum -ℤ old +ℤ new) (omega arith); moved = swap-terms sum old new }
+    record { less = sub-fits sum old (omega arith); next = add-fits (sum -ℤ old) new (omega (arith, abs-sub sum old)); moved = term-replaced sum old new }
 
 unit-vector-requires : tie.Need-unit-vector-requires
 unit-vector-requires c κs = search needs

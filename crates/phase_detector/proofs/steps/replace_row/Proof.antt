@@ -1,21 +1,18 @@
 -- `phase_detector::steps::replace_row` meets its contract: the loop of `Write.Written`. The sums are carried at every turn, so that their range (`ring-range`)
 -- shows each step in range. Assumes nothing.
-use mathlib.Core.Path.{_≡_, refl, sym, ap, _∙_}
-use mathlib.Core.List.{List, map}
-use Prim.Native.Nat.{ℕ, _+_, _-_, _*_, _^_, _≤_, _<_}
+use mathlib.Core.Path.{_≡_, sym, _∙_}
+use Prim.Native.Nat.{_+_, _-_, _*_, _<_}
 use native.Mathlib.Omega.{arith}
 use borrow.Author.Needs.{needs, sfits-of}
-use lib.IntN.{ℤ, pos, natAbs, _+ℤ_}
-use lib.ListN.{length, getD, set, length-map, List·getD-map}
+use lib.IntN.{pos}
+use lib.ListN.{length, getD, length-map, List·getD-map}
 use mir.Syntax.{w16, w32}
 use mir.Val.{SFits, toZ, ofZ}
 use mir.Facts.{toZ-ofZ}
-use Rattle.window.specs.Words.{words, putWord}
-use Rattle.window.specs.Window.{columns, ringRows}
-use Rattle.window.specs.Sums.{Ring}
+use Rattle.window.specs.Window.{columns}
 use Rattle.window.proofs.Write.{Written, write-start, write-turn, store-there, store-end}
 use Rattle.vectors.specs.Tables.{sinQuarter}
-use Rattle.vectors.specs.Vector.{bits, cosAt, sinAt}
+use Rattle.vectors.specs.Vector.{bits}
 use Rattle.phase_detector.specs.Wander.{angles, ColumnRange}
 use Rattle.phase_detector.specs.Phase.{entries}
 use Rattle.phase_detector.proofs.Angles.{lawful, ring-range}
@@ -63,7 +60,7 @@ module _ (c : tie.In-loop Inv-loop μ-loop) where
   range =
       let at-loop = c .before .loop in
       let start = c .before .before .before .before in
-      ring-range (start .args .w) columns (at-loop .rows) (at-loop .inv .1 .bytes) (at-loop .sc) (omega (arith, start .pre .1)) (at-loop .out .cos) (at-loop .out .sin) (at-loop .inv .1 .ring)
+      ring-range (at-loop .inv .1 .ring) (at-loop .inv .1 .bytes) (at-loop .sc) (omega (arith, start .pre .1))
 
 entry-requires : tie.Need-entry-requires Inv-loop μ-loop
 entry-requires c κs = there (c .before)

@@ -1,5 +1,5 @@
 -- `phase_detector::steps::settled_state` meets its contract. Assumes nothing.
-use mathlib.Core.Path.{_∙_, sym}
+use mathlib.Core.Path.{_∙_}
 use borrow.Author.Tests.{lt-ltb, le-ltb}
 use borrow.Author.Needs.{needs}
 use Rattle.phase_detector.proofs.steps.settled_state.Statement.{statement}

@@ -1,12 +1,12 @@
 -- `phase_detector::steps::sums_match` meets its contract: the loop of `Check.Alike`. Two signed numbers are compared by their bits. Assumes nothing.
-use mathlib.Core.Path.{_≡_, sym, ap, _∙_}
-use Prim.Native.Nat.{ℕ, _-_}
+use mathlib.Core.Path.{ap}
+use Prim.Native.Nat.{_-_}
 use native.Mathlib.Omega.{arith}
 use borrow.Author.Needs.{sfits-of}
-use lib.IntN.{ℤ, pos}
+use lib.IntN.{pos}
 use mir.Syntax.{w32}
-use mir.Val.{SFits, toZ, ofZ}
-use mir.Facts.{toZ-ofZ}
+use mir.Val.{ofZ}
+use Rattle.num.proofs.Read.{same-bits}
 use Rattle.window.specs.Window.{columns, ringRows}
 use Rattle.window.proofs.Check.{Alike, alike-start, alike-turn, alike-carried, first-alike, second-alike, ring-yes, ring-no}
 use Rattle.phase_detector.specs.Wander.{angles}
@@ -18,10 +18,6 @@ Inv-loop rows w carried own sc₀ sc = Alike (pos 0) columns (own .cos) (own .si
 
 abbrev μ-loop : tie.MeasureT-loop
 μ-loop rows w carried own sc₀ sc = columns - sc
-
--- numbers that fit are the same where their bits are
-same-bits : {x y : ℤ} → SFits w32 x → SFits w32 y → ofZ w32 x ≡ ofZ w32 y → x ≡ y
-same-bits hx hy e = sym (toZ-ofZ hx) ∙ ap (toZ w32) e ∙ toZ-ofZ hy
 
 returns : tie.Need-returns Inv-loop μ-loop
 returns c = let a = c .before .before .args in ring-no angles (a .w) columns (a .rows .now) _ _ (λ ring. omega (arith, ring .small, c .if1 .taken))

@@ -1,9 +1,8 @@
 -- `phase_detector::steps::zero_sums` meets its contract: each row adds 16,384 to a sum of cosines. Assumes nothing.
-use mathlib.Core.Path.{_≡_, sym}
-use Prim.Native.Nat.{ℕ, _*_, _^_, _<_}
+use mathlib.Core.Path.{sym}
+use Prim.Native.Nat.{_*_, _^_, _<_}
 use native.Mathlib.Omega.{arith}
 use borrow.Author.Needs.{needs}
-use lib.IntN.{pos}
 use mir.Syntax.{w32}
 use mir.Facts.{toZ-pos}
 use Rattle.phase_detector.proofs.Angles.{zero-cosines, zero-sines}

@@ -1,14 +1,14 @@
 -- `presence::steps::add_row` meets its contract: the loop of `Check.Adding`, whose sums are no larger than their rows allow. Assumes nothing.
-use mathlib.Core.Path.{_≡_, refl}
-use mathlib.Core.List.{List}
-use Prim.Native.Nat.{ℕ, _+_, _-_, _*_, _≤_, _<_}
+use mathlib.Core.Path.{refl}
+use Prim.Native.Nat.{_+_, _-_, _*_, _≤_}
 use native.Mathlib.Omega.{arith}
 use borrow.Author.Needs.{needs}
-use lib.ListN.{length, getD}
+use lib.ListN.{getD}
+use Rattle.num.specs.Sum.{square}
 use Rattle.window.specs.Window.{columns}
 use Rattle.window.proofs.Ring.{entry-within}
-use Rattle.window.proofs.Check.{Adding, add-start, add-first, add-second, add-turn, add-end}
-use Rattle.presence.specs.Wander.{amplitudes}
+use Rattle.window.proofs.Check.{Adding, next-sum, add-start, add-turn, add-end}
+use Rattle.presence.specs.Wander.{self, amplitudes}
 use Rattle.presence.proofs.Amplitudes.{lawful, part-range}
 use Rattle.presence.proofs.steps.add_row.Statement.{statement}
 use Rattle.presence.proofs.steps.add_row.Tie as tie
@@ -28,7 +28,7 @@ module _ (v : tie.After-entry Inv-loop μ-loop) where
       let l = v .before .before .loop in
       omega (
         arith,
-        add-first amplitudes lawful (a .w) columns (a .slot) (a .rows .now) (start .pre .0 .2) (l .out .sum) (l .out .sumsq) (l .sc) (l .inv) (v .before .loop-test .taken) (v .entry .result) (v .entry .ensures),
+        next-sum amplitudes lawful self (a .w) columns (a .slot) (a .rows .now) (start .pre .0 .2) (l .out .sum) (l .sc) (l .inv .firsts) (v .before .loop-test .taken) (v .entry .result) (v .entry .ensures),
         part-range (a .w) columns (a .rows .now) (λ i. v .before .before .before .shared-slice-known .given i .fits) (a .slot + 1) (omega (arith, start .pre .0 .2)) (l .sc) (v .before .loop-test .taken) .0,
         start .pre .0 .0,
         start .pre .0 .2,
@@ -41,7 +41,7 @@ module _ (v : tie.After-entry Inv-loop μ-loop) where
       let l = v .before .before .loop in
       omega (
         arith,
-        add-second amplitudes lawful (a .w) columns (a .slot) (a .rows .now) (start .pre .0 .2) (l .out .sum) (l .out .sumsq) (l .sc) (l .inv) (v .before .loop-test .taken) (v .entry .result) (v .entry .ensures),
+        next-sum amplitudes lawful square (a .w) columns (a .slot) (a .rows .now) (start .pre .0 .2) (l .out .sumsq) (l .sc) (l .inv .seconds) (v .before .loop-test .taken) (v .entry .result) (v .entry .ensures),
         part-range (a .w) columns (a .rows .now) (λ i. v .before .before .before .shared-slice-known .given i .fits) (a .slot + 1) (omega (arith, start .pre .0 .2)) (l .sc) (v .before .loop-test .taken) .1,
         start .pre .0 .0,
         start .pre .0 .2,

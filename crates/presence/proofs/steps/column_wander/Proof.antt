@@ -1,6 +1,6 @@
 -- `presence::steps::column_wander` meets its contract: every product fits, since a deviation is at most half the range (`Range.antt`). Assumes nothing.
 use mathlib.Core.Path.{_≡_, sym, ap, _∙_}
-use Prim.Native.Nat.{ℕ, _-_, _*_, _/_, _≤_}
+use Prim.Native.Nat.{ℕ, _*_, _/_, _≤_}
 use native.Mathlib.Omega.{arith}
 use borrow.Author.Needs.{needs}
 use Rattle.num.specs.Root.{root}

@@ -1,5 +1,5 @@
 -- `presence::steps::moved_square` meets its contract: the square of a 16-bit number has 32 bits. Assumes nothing.
-use Prim.Native.Nat.{ℕ, _*_, _≤_, _<_, _^_}
+use Prim.Native.Nat.{_≤_}
 use native.Mathlib.Nat.{mul-le-mul}
 use native.Mathlib.Omega.{arith}
 use borrow.Author.Needs.{needs}
@@ -12,14 +12,11 @@ mul-result c = search needs
 sub-result : tie.Need-sub-result
 sub-result c = search needs
 
-square-le : (x : ℕ) → x < 2 ^ 16 → x * x ≤ 65535 * 65535
-square-le x h = mul-le-mul {n₂ = 65535} {m₂ = 65535} (omega arith) (omega arith)
-
 mul-result-2 : tie.Need-mul-result-2
-mul-result-2 c = omega (arith, square-le (c .args .new) (c .fits .new .fits))
+mul-result-2 c = let h : c .args .new ≤ 65535 = omega (arith, c .fits .new .fits) in omega (arith, mul-le-mul h h)
 
 add-result : tie.Need-add-result
-add-result c = omega (arith, square-le (c .args .new) (c .fits .new .fits))
+add-result c = let h : c .args .new ≤ 65535 = omega (arith, c .fits .new .fits) in omega (arith, mul-le-mul h h)
 
 returns : tie.Need-returns
 returns c = search needs

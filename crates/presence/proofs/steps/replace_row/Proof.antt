@@ -1,14 +1,13 @@
 -- `presence::steps::replace_row` meets its contract: the loop of `Write.Written`. The sums are carried at every turn, so that the range of a column's
 -- sums (`ring-range`) shows each step in range. Assumes nothing.
-use mathlib.Core.Path.{_≡_, refl, sym, ap, _∙_}
+use mathlib.Core.Path.{_≡_, sym, _∙_}
 use mathlib.Core.List.{List}
 use Prim.Native.Nat.{ℕ, _+_, _-_, _*_, _≤_, _<_}
 use native.Mathlib.Omega.{arith}
 use borrow.Author.Needs.{needs}
-use lib.ListN.{length, getD, set}
-use Rattle.window.specs.Words.{words, putWord}
-use Rattle.window.specs.Window.{columns, ringRows}
-use Rattle.window.specs.Sums.{Ring}
+use lib.ListN.{length, getD}
+use Rattle.window.specs.Words.{words}
+use Rattle.window.specs.Window.{columns}
 use Rattle.window.proofs.Write.{Written, write-start, write-turn, store-there, store-end}
 use Rattle.num.specs.Sum.{square}
 use Rattle.presence.specs.Wander.{self, amplitudes, ColumnRange}
@@ -44,7 +43,7 @@ turn c =
       there =
           store-there (args .w) columns (args .slot) (args .count) (args .t4) (args .rows .now) (start .pre .0 .whole) (start .pre .1 .0) (start .pre .1 .1) (new-long start)
           (at-loop .rows) (at-loop .sc) (inv .stored) (c .loop-test .taken);
-      range = ring-range (args .w) columns (at-loop .rows) (at-loop .out .sum) (at-loop .out .sumsq) (inv .ring) (inv .bytes) (at-loop .sc) in-row;
+      range = ring-range (inv .ring) (inv .bytes) (at-loop .sc) in-row;
       part = rw (inv .ring .sums .firsts (at-loop .sc) in-row) (entry-le-sum (args .w) columns (at-loop .rows) self (args .slot) (at-loop .sc) (start .pre .1 .0) in-row);
       square-part = rw (inv .ring .sums .seconds (at-loop .sc) in-row) (entry-le-sum (args .w) columns (at-loop .rows) square (args .slot) (at-loop .sc) (start .pre .1 .0) in-row);
     }

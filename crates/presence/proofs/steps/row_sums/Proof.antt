@@ -1,5 +1,5 @@
 -- `presence::steps::row_sums` meets its contract: the sums are those of the rows passed. Assumes nothing.
-use Prim.Native.Nat.{ℕ, _-_, _≤_}
+use Prim.Native.Nat.{_-_, _≤_}
 use native.Mathlib.Omega.{arith}
 use borrow.Author.Needs.{needs}
 use lib.ListN.{take}

@@ -1,6 +1,5 @@
 -- `presence::steps::sums_match` meets its contract: the loop of `Check.Alike`. Assumes nothing.
-use mathlib.Core.Path.{_≡_}
-use Prim.Native.Nat.{ℕ, _-_}
+use Prim.Native.Nat.{_-_}
 use native.Mathlib.Omega.{arith}
 use Rattle.window.specs.Window.{columns, ringRows}
 use Rattle.window.proofs.Check.{Alike, alike-start, alike-turn, alike-carried, first-alike, second-alike, ring-yes, ring-no}

@@ -8,11 +8,12 @@ use lib.IntN.{pos}
 use mir.Syntax.{w32}
 use mir.Val.{SFits}
 use mir.Facts.{toZ-ofZ}
+use Rattle.num.specs.Wrap.{bits32}
 use Rattle.num.specs.Words.{putLe}
 use lib.ListN.{length, getD, length-map, List·getD-map}
-use Rattle.room_memory.specs.Arrays.{bits32}
 use borrow.Author.Needs.{needs}
 use Rattle.num.proofs.Arrays.{Writing, none-written, written, all-written, written-long}
+use Rattle.window.specs.Window.{columns}
 use Rattle.room_memory.proofs.arrays.put_i32s.Statement.{statement}
 use Rattle.room_memory.proofs.arrays.put_i32s.Tie as tie
 
@@ -20,12 +21,12 @@ abbrev Inv-loop : tie.InvT-loop
 Inv-loop m₀ at xs i₀ m i = Writing 4 at (map bits32 xs) m₀ m i
 
 abbrev μ-loop : tie.MeasureT-loop
-μ-loop m₀ at xs i₀ m i = 64 - i
+μ-loop m₀ at xs i₀ m i = columns - i
 
-array-long : (c : tie.Start Inv-loop μ-loop) → length (c .args .t3) ≡ 64
+array-long : (c : tie.Start Inv-loop μ-loop) → length (c .args .t3) ≡ columns
 array-long c = search needs
 
-long : (c : tie.Start Inv-loop μ-loop) → length (map bits32 (c .args .t3)) ≡ 64
+long : (c : tie.Start Inv-loop μ-loop) → length (map bits32 (c .args .t3)) ≡ columns
 long c = length-map (c .args .t3) bits32 ∙ array-long c
 
 -- the words fit behind their place

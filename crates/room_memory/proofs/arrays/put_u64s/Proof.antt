@@ -6,6 +6,7 @@ use native.Mathlib.Omega.{arith}
 use lib.ListN.{length}
 use borrow.Author.Needs.{needs}
 use Rattle.num.proofs.Arrays.{Writing, none-written, written, all-written, written-long}
+use Rattle.window.specs.Window.{columns}
 use Rattle.room_memory.proofs.arrays.put_u64s.Statement.{statement}
 use Rattle.room_memory.proofs.arrays.put_u64s.Tie as tie
 
@@ -13,9 +14,9 @@ abbrev Inv-loop : tie.InvT-loop
 Inv-loop m₀ at xs i₀ m i = Writing 8 at xs m₀ m i
 
 abbrev μ-loop : tie.MeasureT-loop
-μ-loop m₀ at xs i₀ m i = 64 - i
+μ-loop m₀ at xs i₀ m i = columns - i
 
-long : (c : tie.Start Inv-loop μ-loop) → length (c .args .t3) ≡ 64
+long : (c : tie.Start Inv-loop μ-loop) → length (c .args .t3) ≡ columns
 long c = search needs
 
 -- the words fit behind their place

@@ -5,17 +5,18 @@ use borrow.Author.Needs.{needs}
 use lib.ListN.{drop, replicate, length-replicate}
 use Rattle.num.specs.Words.{wordsIn}
 use Rattle.num.proofs.Arrays.{Copying, none-copied, copied, all-copied, length-wordsIn, word-in}
+use Rattle.window.specs.Window.{columns}
 use Rattle.room_memory.proofs.arrays.u64s_at.Statement.{statement}
 use Rattle.room_memory.proofs.arrays.u64s_at.Tie as tie
 
 abbrev Inv-loop : tie.InvT-loop
-Inv-loop m at out₀ i₀ out i = Copying 64 (wordsIn 8 64 (drop at m)) out i
+Inv-loop m at out₀ i₀ out i = Copying columns (wordsIn 8 columns (drop at m)) out i
 
 abbrev μ-loop : tie.MeasureT-loop
-μ-loop m at out₀ i₀ out i = 64 - i
+μ-loop m at out₀ i₀ out i = columns - i
 
 loop-holds : tie.Need-loop-holds Inv-loop μ-loop
-loop-holds c = none-copied 0 (length-wordsIn 8 64 (drop (c .before .args .at) (c .before .args .m .now))) (replicate {A = ℕ} 64 0) (length-replicate {A = ℕ} 64 0)
+loop-holds c = none-copied 0 (length-wordsIn 8 columns (drop (c .before .args .at) (c .before .args .m .now))) (replicate {A = ℕ} columns 0) (length-replicate {A = ℕ} columns 0)
 
 mul-u64-at : tie.Need-mul-u64-at Inv-loop μ-loop
 mul-u64-at c = search needs
@@ -42,12 +43,12 @@ loop-again : tie.Need-loop-again Inv-loop μ-loop
 loop-again c =
     let a = c .before .before .before .before .args in
     let l = c .before .before .loop in
-    copied 0 (length-wordsIn 8 64 (drop (a .at) (a .m .now))) (l .inv) (c .before .loop-test .taken) _ (c .u64-at .ensures ∙ word-in 8 64 (a .at) (l .i) (a .m .now) (c .before .loop-test .taken))
+    copied 0 (length-wordsIn 8 columns (drop (a .at) (a .m .now))) (l .inv) (c .before .loop-test .taken) _ (c .u64-at .ensures ∙ word-in 8 columns (a .at) (l .i) (a .m .now) (c .before .loop-test .taken))
 
 returns : tie.Need-returns Inv-loop μ-loop
 returns c =
     let a = c .before .before .before .args in
-    all-copied 0 (length-wordsIn 8 64 (drop (a .at) (a .m .now))) (c .before .loop .inv) (c .loop-test .left)
+    all-copied 0 (length-wordsIn 8 columns (drop (a .at) (a .m .now))) (c .before .loop .inv) (c .loop-test .left)
 
 pub u64s-at-spec : {M : Type 1} → statement M
 u64s-at-spec =

@@ -20,29 +20,29 @@ i32s-at-requires-2 c κs = search needs
 shared-slice-read-t9 : tie.Need-shared-slice-read-t9
 shared-slice-read-t9 c = search needs
 
-detector-at-requires : tie.Need-detector-at-requires
-detector-at-requires c κs = search needs
+detector-in-requires : tie.Need-detector-in-requires
+detector-in-requires c κs = search needs
 
-detector-at-requires-2 : tie.Need-detector-at-requires-2
-detector-at-requires-2 c κs = search needs
+detector-in-requires-2 : tie.Need-detector-in-requires-2
+detector-in-requires-2 c κs = search needs
 
-progress-at-requires : tie.Need-progress-at-requires
-progress-at-requires c κs = search needs
+progress-in-requires : tie.Need-progress-in-requires
+progress-in-requires c κs = search needs
 
 u32s-at-requires-2 : tie.Need-u32s-at-requires-2
 u32s-at-requires-2 c κs = search needs
 
-progress-at-requires-2 : tie.Need-progress-at-requires-2
-progress-at-requires-2 c κs = search needs
+progress-in-requires-2 : tie.Need-progress-in-requires-2
+progress-in-requires-2 c κs = search needs
 
 u32s-at-requires-3 : tie.Need-u32s-at-requires-3
 u32s-at-requires-3 c κs = omega (arith, c .before .before .before .before .before .before .before .before .before .before .before .pre)
 
-baseline-at-requires : tie.Need-baseline-at-requires
-baseline-at-requires c κs = omega (arith, c .before .before .before .before .before .before .before .before .before .before .before .before .pre)
+baseline-in-requires : tie.Need-baseline-in-requires
+baseline-in-requires c κs = omega (arith, c .before .before .before .before .before .before .before .before .before .before .before .before .pre)
 
-fall-at-requires : tie.Need-fall-at-requires
-fall-at-requires c κs = omega (arith, c .before .before .before .before .before .before .before .before .before .before .before .before .before .pre)
+fall-in-requires : tie.Need-fall-in-requires
+fall-in-requires c κs = omega (arith, c .before .before .before .before .before .before .before .before .before .before .before .before .before .pre)
 
 returns : tie.Need-returns
 unfolding stateAt
@@ -52,14 +52,14 @@ returns c =
       c .before .before .before .before .before .before .before .before .before .before .before .u64s-at .ensures,
       c .before .before .before .before .before .before .before .before .before .before .i32s-at .ensures,
       c .before .before .before .before .before .before .before .before .before .i32s-at2 .ensures,
-      c .before .before .before .before .before .before .before .detector-at .ensures,
-      c .before .before .before .before .before .before .detector-at2 .ensures,
-      c .before .before .before .before .before .progress-at .ensures,
+      c .before .before .before .before .before .before .before .detector-in .ensures,
+      c .before .before .before .before .before .before .detector-in2 .ensures,
+      c .before .before .before .before .before .progress-in .ensures,
       c .before .before .before .before .u32s-at2 .ensures,
-      c .before .before .before .progress-at2 .ensures,
+      c .before .before .before .progress-in2 .ensures,
       c .before .before .u32s-at3 .ensures,
-      c .before .baseline-at .ensures,
-      c .fall-at .ensures,
+      c .before .baseline-in .ensures,
+      c .fall-in .ensures,
     )
 
 pub load-spec : {M : Type 1} → statement M
@@ -71,12 +71,12 @@ load-spec =
     i32s-at-requires
     i32s-at-requires-2
     shared-slice-read-t9
-    detector-at-requires
-    detector-at-requires-2
-    progress-at-requires
+    detector-in-requires
+    detector-in-requires-2
+    progress-in-requires
     u32s-at-requires-2
-    progress-at-requires-2
+    progress-in-requires-2
     u32s-at-requires-3
-    baseline-at-requires
-    fall-at-requires
+    baseline-in-requires
+    fall-in-requires
     returns)

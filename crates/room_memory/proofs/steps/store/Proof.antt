@@ -1,5 +1,5 @@
 -- `room_memory::steps::store` meets its contract. Assumes nothing.
-use Prim.Native.Nat.{ℕ}
+use Prim.Native.Nat.{ℕ, _-_}
 use mathlib.Core.Path.{_≡_, refl, ap, _∙_}
 use mathlib.Core.List.{List, _++_, append-assoc}
 use native.Mathlib.Omega.{arith}
@@ -9,9 +9,9 @@ use mir.Val.{Fits}
 use lib.ListN.{getD, take, drop}
 use lib.Seq.{length-take-le}
 use Rattle.num.proofs.Parts.{front-start, front-next, front-whole}
-use Rattle.room_memory.proofs.Elements.{elem-signed}
+use Rattle.num.proofs.Elements.{elem-signed}
 use Rattle.room_memory.proofs.Whole.{Full, Ranged, stored-loaded}
-use Rattle.room_memory.specs.Header.{settingsLen, headerLen, stateAt, smallBytes, columnBytes, stateBytes}
+use Rattle.room_memory.specs.Header.{settingsLen, sumAt, headerLen, stateAt, smallBytes, columnBytes, stateBytes}
 use Rattle.room_memory.proofs.steps.store.Statement.{statement}
 use Rattle.room_memory.proofs.steps.store.Tie as tie
 
@@ -68,9 +68,9 @@ returns c =
     let m = start .args .m .now in
     let s = start .args .s in
     let f₀ = front-start settingsLen m (omega (arith, start .pre .0)) in
-    let f₁ = front-next 84 (smallBytes s) _ f₀ refl (c .before .before .before .before .before .before .store-small .ensures) in
+    let f₁ = front-next (sumAt - settingsLen) (smallBytes s) _ f₀ refl (c .before .before .before .before .before .before .store-small .ensures) in
     let e : c .before .before .store-columns .last .0 ≡ take settingsLen m ++ (stateBytes s ++ drop headerLen m) =
-    front-whole 1792 (columnBytes (s .«presence_sums») (s .«phase_sums») (s .«breathing_acc») (s .«heart_acc»)) _ f₁ (c .before .before .store-columns .ensures)
+    front-whole (headerLen - sumAt) (columnBytes (s .«presence_sums») (s .«phase_sums») (s .«breathing_acc») (s .«heart_acc»)) _ f₁ (c .before .before .store-columns .ensures)
     ∙ regroup (take settingsLen m) (smallBytes s) (columnBytes (s .«presence_sums») (s .«phase_sums») (s .«breathing_acc») (s .«heart_acc»)) (drop headerLen m)
     in
     (e, ap stateAt e ∙ stored-loaded (take settingsLen m) (drop headerLen m) s (length-take-le settingsLen m (omega (arith, start .pre .0))) (full start) (start .pre .1) (ranged start))

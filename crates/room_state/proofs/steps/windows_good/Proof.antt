@@ -1,9 +1,10 @@
 -- `room_state::steps::windows_good` meets its contract. Assumes nothing.
-use mathlib.Core.Path.{_≡_, sym, ap, ap₂, _∙_}
+use mathlib.Core.Path.{_≡_, refl, sym, ap, _∙_}
 use mathlib.Core.List.{List}
 use Prim.Native.Nat.{ℕ, _-_, _*_}
 use native.Mathlib.Omega.{arith}
 use lib.ListN.{take, drop}
+use Rattle.num.proofs.Parts.{same-part}
 use Rattle.window.specs.Window.{columns}
 use Rattle.detector.specs.Detector.{isValid}
 use Rattle.presence.specs.Presence.{presenceKind}
@@ -15,10 +16,10 @@ use Rattle.room_state.proofs.steps.windows_good.Tie as tie
 
 -- the parts that are lent are the first two rings
 first-lent : {r k : ℕ} (rows : List ℕ) → r ≡ k → take (r - 0) (drop 0 rows) ≡ partAt 0 k rows
-first-lent {r} {k} rows e = let h : r - 0 ≡ k = omega arith in ap (λ (n : ℕ). take n rows) h
+first-lent {r} {k} rows e = same-part rows 0 0 (r - 0) k refl (omega arith)
 
 second-lent : {r k : ℕ} (rows : List ℕ) → r ≡ k → take (2 * r - r) (drop r rows) ≡ partAt k k rows
-second-lent {r} {k} rows e = let h : 2 * r - r ≡ k = omega arith in ap₂ (λ (n m : ℕ). take n (drop m rows)) h e
+second-lent {r} {k} rows e = same-part rows r k (2 * r - r) k e (omega arith)
 
 cast-w : tie.Need-cast-w
 cast-w c = search needs

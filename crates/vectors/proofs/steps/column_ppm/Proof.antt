@@ -1,12 +1,11 @@
 -- `vectors::steps::column_ppm` meets its contract. Assumes nothing.
-use mathlib.Core.Path.{_≡_, sym, ap, _∙_}
-use Prim.Native.Nat.{ℕ, _+_, _*_, _^_, _≤_}
+use mathlib.Core.Path.{_≡_, ap, _∙_}
+use Prim.Native.Nat.{_+_, _*_, _^_, _≤_}
+use native.Mathlib.Nat.{mul-le-mul}
 use native.Mathlib.Omega.{arith}
-use borrow.Author.Needs.{needs}
-use lib.IntN.{natAbs}
 use mir.Facts.{toZ-ofZ}
 use Rattle.vectors.specs.Vector.{columnPpm, missingPpm, meanSquare}
-use Rattle.vectors.proofs.Means.{squares-le, mean-square-is}
+use Rattle.vectors.proofs.Means.{mean-square-is}
 use Rattle.vectors.proofs.steps.column_ppm.Statement.{statement}
 use Rattle.vectors.proofs.steps.column_ppm.Tie as tie
 
@@ -19,7 +18,9 @@ mean-magnitude-requires-2 c κs = let start = c .before in rw (toZ-ofZ (start .f
 -- the squared length
 module _ (c : tie.After-mean-magnitude2) where
   square-small : c .before .mean-magnitude .result * c .before .mean-magnitude .result + c .mean-magnitude2 .result * c .mean-magnitude2 .result ≤ 2 ^ 29
-  square-small = squares-le (c .before .mean-magnitude .result) (c .mean-magnitude2 .result) (c .before .mean-magnitude .ensures .1) (c .mean-magnitude2 .ensures .1)
+  square-small =
+      let hc = c .before .mean-magnitude .ensures .1 in let hs = c .mean-magnitude2 .ensures .1 in
+      omega (arith, mul-le-mul hc hc, mul-le-mul hs hs)
 
   square-is : c .before .mean-magnitude .result * c .before .mean-magnitude .result + c .mean-magnitude2 .result * c .mean-magnitude2 .result
       ≡ meanSquare (c .before .before .args .cosines) (c .before .before .args .sines) (c .before .before .args .w)

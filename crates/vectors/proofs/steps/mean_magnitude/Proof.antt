@@ -5,7 +5,8 @@ use native.Mathlib.Omega.{arith}
 use borrow.Author.Needs.{needs}
 use lib.IntN.{natAbs}
 use mir.Facts.{toZ-ofZ}
-use Rattle.vectors.proofs.Means.{abs-round, mean-le}
+use Rattle.num.proofs.Sum.{rounded-le}
+use Rattle.vectors.proofs.Means.{abs-round}
 use Rattle.vectors.proofs.steps.mean_magnitude.Statement.{statement}
 use Rattle.vectors.proofs.steps.mean_magnitude.Tie as tie
 
@@ -21,7 +22,7 @@ module _ (c : tie.After-unsigned-abs-i32) where
   mean-is = ap (λ (n : ℕ). (n + c .before .args .w / 2) / c .before .args .w) size-is
 
   mean-small : (natAbs (c .before .args .a) + c .before .args .w / 2) / c .before .args .w ≤ 16384
-  mean-small = mean-le (c .before .args .a) (c .before .args .w) (c .before .pre .0) (c .before .pre .3)
+  mean-small = rounded-le 16384 (c .before .args .w) (natAbs (c .before .args .a)) (c .before .pre .0) (c .before .pre .3)
 
 add-per-row : tie.Need-add-per-row
 add-per-row c = omega (arith, size-is c)

@@ -1,6 +1,4 @@
 -- `vectors::steps::root_from` meets its contract. Assumes nothing.
-use mathlib.Core.Path.{_≡_}
-use Prim.Native.Nat.{ℕ, _+_, _*_, _≤_}
 use native.Mathlib.Nat.{mul-le-mul}
 use native.Mathlib.Omega.{arith}
 use borrow.Author.Needs.{needs}
@@ -8,14 +6,11 @@ use Rattle.vectors.proofs.Rounded.{rounded, from-above}
 use Rattle.vectors.proofs.steps.root_from.Statement.{statement}
 use Rattle.vectors.proofs.steps.root_from.Tie as tie
 
-square-small : (e : ℕ) → e ≤ 16384 → e * e ≤ 16384 * 16384
-square-small e h = mul-le-mul {n₂ = 16384} {m₂ = 16384} h h
-
 mul-if1 : tie.Need-mul-if1
-mul-if1 c = omega (arith, square-small (c .args .e) (c .pre .0))
+mul-if1 c = omega (arith, mul-le-mul (c .pre .0) (c .pre .0))
 
 add-if1 : tie.Need-add-if1
-add-if1 c = omega (arith, square-small (c .args .e) (c .pre .0))
+add-if1 c = omega (arith, mul-le-mul (c .pre .0) (c .pre .0))
 
 add-result : tie.Need-add-result
 add-result c = search needs

@@ -1,6 +1,5 @@
 -- `vectors::steps::rounded_root` meets its contract. Assumes nothing.
 use mathlib.Core.Path.{refl}
-use native.Mathlib.Omega.{arith}
 use borrow.Author.Needs.{needs}
 use Rattle.vectors.proofs.Rounded.{near-unit}
 use Rattle.vectors.proofs.steps.rounded_root.Statement.{statement}

@@ -1,9 +1,9 @@
 -- `vectors::steps::sine_in` meets its contract. Assumes nothing.
-use mathlib.Core.Path.{_≡_, ap, _∙_}
+use mathlib.Core.Path.{ap, _∙_}
 use Prim.Native.Nat.{ℕ, _^_, _<_}
 use native.Mathlib.Omega.{arith}
 use borrow.Author.Needs.{needs}
-use lib.IntN.{ℤ, pos, negℤ}
+use lib.IntN.{pos, negℤ}
 use mir.Syntax.{w32}
 use mir.Facts.{toZ-pos}
 use Rattle.num.proofs.Read.{minus-fits, minus-read}

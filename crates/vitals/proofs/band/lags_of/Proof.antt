@@ -1,6 +1,6 @@
 -- `lags_of` meets its contract. Assumes nothing.
 use mathlib.Core.Path.{_≡_}
-use Prim.Native.Nat.{_-_, _*_, _/_, max}
+use Prim.Native.Nat.{_*_, _/_, max}
 use native.Mathlib.Omega.{arith}
 use Rattle.vitals.proofs.Facts.{usable-facts}
 use borrow.Author.Needs.{needs}

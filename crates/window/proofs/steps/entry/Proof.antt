@@ -1,6 +1,6 @@
 -- `window::steps::entry` meets its contract: the bytes are below 256, and `words-at` says what the entry is. Assumes nothing.
 use mathlib.Core.Path.{sym}
-use Prim.Native.Nat.{ℕ, _+_, _*_}
+use Prim.Native.Nat.{_+_, _*_}
 use native.Mathlib.Omega.{arith}
 use borrow.Author.Needs.{needs}
 use Rattle.window.proofs.Words.{words-at}

@@ -10,7 +10,7 @@ use mir.Syntax.{w32}
 use mir.Val.{toZ, ofZ}
 use mir.Facts.{toZ-ofZ}
 use Rattle.num.proofs.Abs.{abs-add}
-use Rattle.num.proofs.Fill.{each-set}
+use Rattle.num.proofs.Each.{each-set}
 use Rattle.num.proofs.Stored.{one-more}
 use Rattle.vitals.specs.Series.{at}
 use Rattle.vitals.specs.Correlation.{corrOf}

@@ -9,7 +9,6 @@ use mir.Val.{toZ, ofZ}
 use mir.Facts.{toZ-ofZ}
 use Rattle.vitals.proofs.Lagged.{corr-size}
 use Rattle.vitals.specs.Correlation.{lagged, corrOf}
-use borrow.Author.Needs.{needs}
 use Rattle.vitals.proofs.steps.correlation.corr_at.Statement.{statement}
 use Rattle.vitals.proofs.steps.correlation.corr_at.Tie as tie
 

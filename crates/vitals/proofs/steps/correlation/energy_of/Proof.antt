@@ -13,7 +13,6 @@ use Rattle.num.proofs.Sum.{dot-first}
 use Rattle.num.proofs.Dot.{dot-self-pos}
 use Rattle.vitals.specs.Correlation.{energy}
 use Rattle.vitals.proofs.Lagged.{energy-size}
-use borrow.Author.Needs.{needs}
 use Rattle.vitals.proofs.steps.correlation.energy_of.Statement.{statement}
 use Rattle.vitals.proofs.steps.correlation.energy_of.Tie as tie
 

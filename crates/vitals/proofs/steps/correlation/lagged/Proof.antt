@@ -9,10 +9,10 @@ use mir.Val.{SFits, toZ, ofZ}
 use mir.Facts.{toZ-ofZ, sfits-widen}
 use Rattle.num.specs.Sum.{dotZ, maxTerms}
 use Rattle.num.proofs.Dot.{dot-all, dot-front}
+use Rattle.num.proofs.Parts.{part-lent}
 use Rattle.num.proofs.Read.{read-32-64}
 use Rattle.vitals.specs.Correlation.{energy, lagged}
-use Rattle.vitals.proofs.Lagged.{rest, sums-fit, zeros-from, lagged-size, energy-size}
-use borrow.Author.Needs.{needs}
+use Rattle.vitals.proofs.Lagged.{sums-fit, zeros-from, lagged-size, energy-size}
 use Rattle.vitals.proofs.steps.correlation.lagged.Statement.{statement}
 use Rattle.vitals.proofs.steps.correlation.lagged.Tie as tie
 
@@ -38,7 +38,7 @@ dot-blocks-requires c κs =
     let x = a .x .now in
     let pad = start .pre .2 in
     let e : energy (take (a .n) x) ≤ 2147483647 = omega (arith, start .pre .3, c .before .if1 .taken) in
-    rw (rest x (a .lag)) (omega (arith, pad .long), omega (arith, pad .long, length-drop (a .lag) x), sums-fit (a .n) x pad (a .lag) e, zeros-from (a .n) x pad (a .lag) (omega arith))
+    rw (part-lent (a .lag) x) (omega (arith, pad .long), omega (arith, pad .long, length-drop (a .lag) x), sums-fit (a .n) x pad (a .lag) e, zeros-from (a .n) x pad (a .lag) (omega arith))
 
 cast-result : tie.Need-cast-result
 cast-result c = let f : SFits w32 (c .dot-blocks .result) = sfits-of (c .dot-blocks .ok) in rw (toZ-ofZ f) (sfits-widen tt f)
@@ -50,7 +50,7 @@ returns c =
     let x = a .x .now in
     let f : SFits w32 (c .dot-blocks .result) = sfits-of (c .dot-blocks .ok) in
     let e : c .dot-blocks .result ≡ lagged (take (a .n) x) (a .lag) =
-    c .dot-blocks .ensures ∙ ap (dotZ (take (a .n - a .lag) x)) (rest x (a .lag)) ∙ dot-front (a .n) (a .lag) x (omega arith) in
+    c .dot-blocks .ensures ∙ ap (dotZ (take (a .n - a .lag) x)) (part-lent (a .lag) x) ∙ dot-front (a .n) (a .lag) x (omega arith) in
     rw (toZ-ofZ f, read-32-64 f, e) (refl, omega (arith, lagged-size (take (a .n) x) (a .lag), energy-size (a .n) x (start .pre .0) (start .pre .2)))
 
 sub-dot-i16 : tie.Need-sub-dot-i16
@@ -90,7 +90,7 @@ returns-2 c =
     let e : toZ w64 (ofZ w64 (c .dot-i16 .result)) ≡ lagged (take (a .n) x) (a .lag) =
     toZ-ofZ (sfits-of (c .dot-i16 .ok)) ∙ c .dot-i16 .ensures
     ∙ dot-all maxTerms (take (a .n - a .lag - 0) x) (take (length x - a .lag) (drop (a .lag) x)) (omega (arith, length-take (a .n - a .lag - 0) x))
-    ∙ rw (z, rest x (a .lag)) (dot-front (a .n) (a .lag) x (omega arith)) in
+    ∙ rw (z, part-lent (a .lag) x) (dot-front (a .n) (a .lag) x (omega arith)) in
     rw e (refl, omega (arith, lagged-size (take (a .n) x) (a .lag), energy-size (a .n) x (start .pre .0) (start .pre .2)))
 
 pub lagged-spec : {M : Type 1} → statement M

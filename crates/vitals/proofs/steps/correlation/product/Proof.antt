@@ -1,17 +1,16 @@
 -- `product` meets its contract: a product of two samples fits. Assumes nothing.
 use mathlib.Core.Path.{sym}
-use Prim.Native.Nat.{_*_}
+use native.Mathlib.Nat.{mul-le-mul}
 use native.Mathlib.Omega.{arith}
 use borrow.Author.Needs.{needs, sfits-of}
 use lib.ListN.{getD}
-use lib.IntN.{ℤ, pos, _*ℤ_}
+use lib.IntN.{pos, _*ℤ_}
 use mir.Syntax.{w16, w32}
 use mir.Val.{SFits}
 use mir.Facts.{toZ-ofZ, sfits-widen}
-use Rattle.num.proofs.Abs.{sfits-abs, abs-sfits, abs-mul, mul-le}
+use Rattle.num.proofs.Abs.{abs-sfits, mul-fits}
 use Rattle.num.proofs.Dot.{part-one}
 use Rattle.num.proofs.Read.{read-16-32}
-use borrow.Author.Needs.{needs}
 use Rattle.vitals.proofs.steps.correlation.product.Statement.{statement}
 use Rattle.vitals.proofs.steps.correlation.product.Tie as tie
 
@@ -25,7 +24,7 @@ product-fits : (c : tie.After-result2) → SFits w32 (getD (c .before .before .a
 product-fits c =
     let a = c .before .before .args in
     let x = getD (a .a .now) (a .k) (pos 0) in let y = getD (a .b .now) (a .k) (pos 0) in
-    sfits-abs {w = w32} (x *ℤ y) (omega (arith, abs-mul x y, mul-le (abs-sfits x (fits-a (c .before))) (abs-sfits y (fits-b c))))
+    mul-fits x y (omega (arith, mul-le-mul (abs-sfits x (fits-a (c .before))) (abs-sfits y (fits-b c))))
 
 mul-result : tie.Need-mul-result
 mul-result c = search needs

@@ -1,9 +1,10 @@
 -- `rho` meets its contract: 2^39 · 1000 · 512 is below 2^63. Assumes nothing.
 use mir.Facts.{toZ-ofZ, toZ-pos}
-use Rattle.num.proofs.Abs.{sfits-abs, abs-mul, abs-quot}
+use Rattle.num.proofs.Abs.{abs-mul, mul-fits, quot-fits}
+use Rattle.num.proofs.Read.{read-abs}
 use mathlib.Core.Path.{_≡_, ap, _∙_}
-use Prim.Native.Nat.{ℕ, _≤_, _*_, _-_}
-use native.Mathlib.Nat.{mul-le-mul, div-le-self}
+use Prim.Native.Nat.{ℕ, _≤_}
+use native.Mathlib.Nat.{mul-le-mul}
 use native.Mathlib.Omega.{arith}
 use lib.IntN.{ℤ, pos, negsuc, natAbs, _*ℤ_}
 use lib.Signed.{quotZ}
@@ -14,27 +15,30 @@ use borrow.Author.Needs.{needs, sfits-of}
 use Rattle.vitals.proofs.steps.correlation.rho.Statement.{statement}
 use Rattle.vitals.proofs.steps.correlation.rho.Tie as tie
 
-module _ (r : ℤ) (n d : ℕ) (hr : natAbs r ≤ 549755813888) (hn : n ≤ 512) (hd : d ≤ 281474976710656) where
-  self : toZ w64 (ofZ w64 r) ≡ r
-  self = toZ-ofZ {w = w64} {z = r} (sfits-abs {w = w64} r (omega arith))
+module _ (c : tie.After-overlap-energy) where
+  abbrev r : ℤ
+  r = c .before .args .r
+
+  abbrev n : ℕ
+  n = c .before .args .n
+
+  abbrev d : ℕ
+  d = c .overlap-energy .result
 
   fits-thousand : SFits w64 (r *ℤ pos 1000)
-  fits-thousand = sfits-abs {w = w64} _ (omega (arith, abs-mul r (pos 1000)))
-
-  size : natAbs (r *ℤ pos 1000 *ℤ pos n) ≤ 281474976710656000
-  size =
-      let a : natAbs (r *ℤ pos 1000) ≤ 549755813888000 = omega (arith, abs-mul r (pos 1000)) in
-      omega (arith, abs-mul (r *ℤ pos 1000) (pos n), mul-le-mul a hn)
+  fits-thousand = mul-fits r (pos 1000) (omega arith)
 
   fits-top : SFits w64 (r *ℤ pos 1000 *ℤ pos n)
-  fits-top = sfits-abs {w = w64} _ (omega (arith, size))
+  fits-top =
+      let a : natAbs (r *ℤ pos 1000) ≤ 549755813888000 = omega (arith, abs-mul r (pos 1000)) in
+      mul-fits (r *ℤ pos 1000) (pos n) (omega (arith, mul-le-mul a (c .before .pre .4)))
 
   fits-quot : SFits w64 (quotZ (r *ℤ pos 1000 *ℤ pos n) (pos d))
-  fits-quot = sfits-abs {w = w64} _ (omega (arith, size, abs-quot (r *ℤ pos 1000 *ℤ pos n) (pos d), div-le-self (natAbs (r *ℤ pos 1000 *ℤ pos n)) d))
+  fits-quot = quot-fits d fits-top
 
   -- each step read back from its local
   top : toZ w64 (ofZ w64 (toZ w64 (ofZ w64 r) *ℤ pos 1000)) *ℤ toZ w64 n ≡ r *ℤ pos 1000 *ℤ pos n
-  top = rw (self, toZ-ofZ {w = w64} {z = r *ℤ pos 1000} fits-thousand, toZ-pos w64 {n = n} (omega arith))
+  top = rw (read-abs w64 r (omega arith), toZ-ofZ {w = w64} {z = r *ℤ pos 1000} fits-thousand, toZ-pos w64 {n = n} (omega arith))
 
   quot : quotZ (toZ w64 (ofZ w64 (toZ w64 (ofZ w64 (toZ w64 (ofZ w64 r) *ℤ pos 1000)) *ℤ toZ w64 n))) (toZ w64 d) ≡ quotZ (r *ℤ pos 1000 *ℤ pos n) (pos d)
   quot = rw (top, toZ-ofZ {w = w64} fits-top, toZ-pos w64 {n = d} (omega arith))
@@ -46,19 +50,19 @@ overlap-energy-requires : tie.Need-overlap-energy-requires
 overlap-energy-requires c κs = search needs
 
 mul-clamp-2000 : tie.Need-mul-clamp-2000
-mul-clamp-2000 c = rw (self (c .before .args .r) (c .before .args .n) (c .overlap-energy .result) (c .before .pre .0) (c .before .pre .4) (c .overlap-energy .ensures .2)) (fits-thousand (c .before .args .r) (c .before .args .n) (c .overlap-energy .result) (c .before .pre .0) (c .before .pre .4) (c .overlap-energy .ensures .2))
+mul-clamp-2000 c = rw (read-abs w64 (r c) (omega (arith, c .before .pre .0))) (fits-thousand c)
 
 cast-clamp-2000 : tie.Need-cast-clamp-2000
 cast-clamp-2000 c = search needs
 
 mul-clamp-2000-2 : tie.Need-mul-clamp-2000-2
-mul-clamp-2000-2 c = rw (top (c .before .args .r) (c .before .args .n) (c .overlap-energy .result) (c .before .pre .0) (c .before .pre .4) (c .overlap-energy .ensures .2)) (fits-top (c .before .args .r) (c .before .args .n) (c .overlap-energy .result) (c .before .pre .0) (c .before .pre .4) (c .overlap-energy .ensures .2))
+mul-clamp-2000-2 c = rw (top c) (fits-top c)
 
 cast-clamp-2000-2 : tie.Need-cast-clamp-2000-2
 cast-clamp-2000-2 c = search needs
 
 div-clamp-2000 : tie.Need-div-clamp-2000
-div-clamp-2000 c = (omega arith, rw (quot (c .before .args .r) (c .before .args .n) (c .overlap-energy .result) (c .before .pre .0) (c .before .pre .4) (c .overlap-energy .ensures .2)) (fits-quot (c .before .args .r) (c .before .args .n) (c .overlap-energy .result) (c .before .pre .0) (c .before .pre .4) (c .overlap-energy .ensures .2)))
+div-clamp-2000 c = (omega arith, rw (quot c) (fits-quot c))
 
 clamp-2000-requires : tie.Need-clamp-2000-requires
 clamp-2000-requires c κs = search needs
@@ -66,13 +70,12 @@ clamp-2000-requires c κs = search needs
 returns : tie.Need-returns
 returns c =
     let a = c .before .before .args in
-    let p = c .before .before .pre in
     let o = c .before .overlap-energy in
     let q = quotZ (a .r *ℤ pos 1000 *ℤ pos (a .n)) (pos (o .result)) in
     toZ-ofZ (sfits-of {w = w32} {z = c .clamp-2000 .result} (c .clamp-2000 .ok)) ∙ c .clamp-2000 .ensures ∙
     ap (clampZ (negsuc 1999) (pos 2000))
-    (ap (λ (z : ℤ). toZ w64 (ofZ w64 z)) (quot (a .r) (a .n) (o .result) (p .0) (p .4) (o .ensures .2)) ∙
-    toZ-ofZ {w = w64} {z = q} (fits-quot (a .r) (a .n) (o .result) (p .0) (p .4) (o .ensures .2)) ∙
+    (ap (λ (z : ℤ). toZ w64 (ofZ w64 z)) (quot (c .before)) ∙
+    toZ-ofZ {w = w64} {z = q} (fits-quot (c .before)) ∙
     ap (λ (d : ℕ). quotZ (a .r *ℤ pos 1000 *ℤ pos (a .n)) (pos d)) (o .ensures .0))
 
 pub rho-spec : {M : Type 1} → statement M

@@ -1,9 +1,9 @@
 -- `is_peak` meets its contract: each way through the tests decides the three conditions. Assumes nothing.
 use mir.Facts.{toZ-ofZ}
 use mathlib.Core.Path.{_≡_, sym, ap, _∙_}
-use mathlib.Core.Bool.{Bool, true, false, _&&_}
+use mathlib.Core.Bool.{Bool}
 use mathlib.Core.List.{List}
-use Prim.Native.Nat.{ℕ, _+_, _-_}
+use Prim.Native.Nat.{ℕ}
 use lib.IntN.{ℤ}
 use lib.Signed.{leZ}
 use mir.Syntax.{w32}
@@ -12,15 +12,6 @@ use Rattle.vitals.specs.Series.{at}
 use borrow.Author.Needs.{needs}
 use Rattle.vitals.proofs.steps.peak.is_peak.Statement.{statement}
 use Rattle.vitals.proofs.steps.peak.is_peak.Tie as tie
-
-both : {x y z : Bool} → x ≡ true → y ≡ true → z ≡ x && (y && z)
-both p q = rw (p, q)
-
-second : {x y : Bool} (z : Bool) → x ≡ true → y ≡ false → false ≡ x && (y && z)
-second z p q = rw (p, q)
-
-neither : {x : Bool} (y : Bool) → x ≡ false → false ≡ x && y
-neither y p = rw p
 
 -- what `reaches` answers of a floor that came in
 asked : (s : List ℤ) (k : ℕ) (g : ℤ) {r b : Bool} → SFits w32 g → r ≡ leZ (toZ w32 (ofZ w32 g)) (at s k) → r ≡ b → leZ g (at s k) ≡ b
@@ -45,21 +36,23 @@ returns : tie.Need-returns
 returns c =
     let v = c .before .before .before .before .before .args in
     c .not-below2 .ensures ∙
-    both (asked (v .summed .now) (v .lag) (v .floor) (c .before .before .before .before .before .fits .floor) (c .before .before .before .before .reaches .ensures) (c .before .before .before .if1 .taken))
-    (sym (c .before .before .not-below .ensures) ∙ c .before .if2 .taken)
+    rw (
+      asked (v .summed .now) (v .lag) (v .floor) (c .before .before .before .before .before .fits .floor) (c .before .before .before .before .reaches .ensures) (c .before .before .before .if1 .taken),
+      sym (c .before .before .not-below .ensures) ∙ c .before .if2 .taken,
+    )
 
 returns-2 : tie.Need-returns-2
 returns-2 c =
     let v = c .before .before .before .before .args in
-    second (leZ (at (v .summed .now) (v .lag + 1)) (at (v .summed .now) (v .lag)))
-    (asked (v .summed .now) (v .lag) (v .floor) (c .before .before .before .before .fits .floor) (c .before .before .before .reaches .ensures) (c .before .before .if1 .taken))
-    (sym (c .before .not-below .ensures) ∙ c .if2 .left)
+    rw (
+      asked (v .summed .now) (v .lag) (v .floor) (c .before .before .before .before .fits .floor) (c .before .before .before .reaches .ensures) (c .before .before .if1 .taken),
+      sym (c .before .not-below .ensures) ∙ c .if2 .left,
+    )
 
 returns-3 : tie.Need-returns-3
 returns-3 c =
     let v = c .before .before .args in
-    neither (leZ (at (v .summed .now) (v .lag - 1)) (at (v .summed .now) (v .lag)) && leZ (at (v .summed .now) (v .lag + 1)) (at (v .summed .now) (v .lag)))
-    (asked (v .summed .now) (v .lag) (v .floor) (c .before .before .fits .floor) (c .before .reaches .ensures) (c .if1 .left))
+    rw (asked (v .summed .now) (v .lag) (v .floor) (c .before .before .fits .floor) (c .before .reaches .ensures) (c .if1 .left))
 
 pub is-peak-spec : {M : Type 1} → statement M
 is-peak-spec =

@@ -7,7 +7,6 @@ use lib.ListN.{length, take, length-take}
 use mir.Facts.{toZ-ofZ}
 use Rattle.num.specs.Sum.{sumZ}
 use Rattle.vitals.proofs.Windows.{samples-take}
-use borrow.Author.Needs.{needs}
 use Rattle.vitals.proofs.steps.series.first_window.Statement.{statement}
 use Rattle.vitals.proofs.steps.series.first_window.Tie as tie
 

@@ -1,16 +1,14 @@
 -- `grown` meets its contract. Assumes nothing.
 use mathlib.Core.Path.{_≡_, refl, _∙_}
-use Prim.Native.Nat.{_+_}
 use native.Mathlib.Omega.{arith}
 use borrow.Author.Needs.{needs, sfits-of}
-use lib.IntN.{ℤ, _+ℤ_}
+use lib.IntN.{_+ℤ_}
 use mir.Syntax.{w16, w32}
 use mir.Val.{toZ, ofZ}
 use mir.Facts.{toZ-ofZ}
-use Rattle.num.proofs.Abs.{sfits-abs}
+use Rattle.num.proofs.Read.{read-abs}
 use Rattle.vitals.specs.Series.{at}
 use Rattle.vitals.proofs.Windows.{room, longer}
-use borrow.Author.Needs.{needs}
 use Rattle.vitals.proofs.steps.series.grown.Statement.{statement}
 use Rattle.vitals.proofs.steps.series.grown.Tie as tie
 
@@ -25,7 +23,7 @@ plus-requires c κs =
     let start = c .before .before .before in
     let w = start .args .w in
     let r = room (start .args .x .now) w (start .pre .0) (start .pre .1) (start .pre .2) in
-    rw (toZ-ofZ (sfits-abs {w = w32} (w .sum) (omega arith))) (omega arith)
+    rw (read-abs w32 (w .sum) (omega arith)) (omega arith)
 
 add-t10 : tie.Need-add-t10
 add-t10 c = search needs
@@ -38,7 +36,7 @@ returns c =
     let r = room x w (start .pre .0) (start .pre .1) (start .pre .2) in
     let e : toZ w32 (ofZ w32 (c .plus .result)) ≡ w .sum +ℤ at x (w .hi) =
     toZ-ofZ (sfits-of (c .plus .ok)) ∙ c .plus .ensures
-    ∙ rw (toZ-ofZ (sfits-abs {w = w32} (w .sum) (omega arith)), toZ-ofZ (sfits-of {w = w16} {z = at x (w .hi)} (c .before .before .plus-arg .given))) in
+    ∙ rw (read-abs w32 (w .sum) (omega arith), toZ-ofZ (sfits-of {w = w16} {z = at x (w .hi)} (c .before .before .plus-arg .given))) in
     (longer x w (start .pre .0) (start .pre .1) (start .pre .2) _ e (c .before .before .before .if1 .taken), refl, omega arith)
 
 returns-2 : tie.Need-returns-2

@@ -8,8 +8,6 @@ use borrow.Author.Count.{below-none, falls}
 use borrow.Author.Needs.{needs, sfits-of}
 use lib.ListN.{length, length-set}
 use lib.IntN.{ℤ, pos, _-ℤ_}
-use mir.Syntax.{w32}
-use mir.Val.{Fits}
 use mir.Facts.{toZ-ofZ}
 use Rattle.num.proofs.Lists.{built}
 use Rattle.num.proofs.Stored.{one-more}
@@ -34,18 +32,12 @@ abbrev μ-loop : tie.MeasureT-loop
 holds-one : (x : List ℤ) (half i : ℕ) (w : Window) → Around x half i w → i < length x → (1 ≤ w .hi - w .lo) × (w .hi - w .lo ≤ length x)
 holds-one x half i w a h = (omega (arith, a .low, a .high), omega (arith, a .slid .inside))
 
-most : {k n : ℕ} → k ≤ n → n ≤ 512 → k ≤ 32767
-most h l = omega arith
-
-fits-below : {k n : ℕ} → k ≤ n → n ≤ 512 → Fits w32 k
-fits-below h l = record { fits = omega arith }
-
 -- the divisor is that of the window
 divides : (c : tie.After-divisor-for Inv-loop μ-loop) → Exact (c .divisor-for .result)
 divides c =
     let l = c .before .before .before .loop in
     let s = holds-one _ _ (l .i) (l .w) (l .inv .4) (c .before .before .loop-test .taken) in
-    exact (c .divisor-for .result) (l .w .hi - l .w .lo) (c .divisor-for .ensures) (s .0) (most (s .1) (c .before .before .before .before .before .before .before .pre .0))
+    exact (c .divisor-for .result) (l .w .hi - l .w .lo) (c .divisor-for .ensures) (s .0) (omega (arith, s .1, c .before .before .before .before .before .before .before .pre .0))
 
 half-of-requires : tie.Need-half-of-requires Inv-loop μ-loop
 half-of-requires c κs = search needs
@@ -70,13 +62,13 @@ cast-divisor-for : tie.Need-cast-divisor-for Inv-loop μ-loop
 cast-divisor-for c =
     let l = c .before .before .loop in
     let s = holds-one _ _ (l .i) (l .w) (l .inv .4) (c .before .loop-test .taken) in
-    fits-below (s .1) (c .before .before .before .before .before .before .pre .0)
+    record { fits = omega (arith, s .1, c .before .before .before .before .before .before .pre .0) }
 
 divisor-for-requires : tie.Need-divisor-for-requires Inv-loop μ-loop
 divisor-for-requires c κs =
     let l = c .before .before .loop in
     let s = holds-one _ _ (l .i) (l .w) (l .inv .4) (c .before .loop-test .taken) in
-    (l .inv .5, s .0, most (s .1) (c .before .before .before .before .before .before .pre .0))
+    (l .inv .5, s .0, omega (arith, s .1, c .before .before .before .before .before .before .pre .0))
 
 level-at-requires : tie.Need-level-at-requires Inv-loop μ-loop
 level-at-requires c κs =

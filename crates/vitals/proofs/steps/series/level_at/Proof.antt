@@ -4,9 +4,8 @@ use native.Mathlib.Omega.{arith}
 use borrow.Author.Needs.{needs, sfits-of}
 use mir.Syntax.{w16, w32}
 use mir.Facts.{toZ-ofZ}
-use Rattle.num.proofs.Abs.{sfits-abs}
+use Rattle.num.proofs.Read.{read-abs}
 use Rattle.vitals.specs.Series.{at}
-use borrow.Author.Needs.{needs}
 use Rattle.vitals.proofs.steps.series.level_at.Statement.{statement}
 use Rattle.vitals.proofs.steps.series.level_at.Tie as tie
 
@@ -21,7 +20,7 @@ mean-in-requires c κs =
     let start = c .before .before in
     let w = start .args .w in
     let few = start .pre .1 .few in
-    rw (toZ-ofZ (sfits-abs {w = w32} (w .sum) (omega arith))) (start .pre .1, start .pre .2)
+    rw (read-abs w32 (w .sum) (omega arith)) (start .pre .1, start .pre .2)
 
 off-requires : tie.Need-off-requires
 off-requires c κs = rw (toZ-ofZ (sfits-of (c .mean-in .ok))) (c .mean-in .ensures .1)
@@ -33,7 +32,7 @@ returns c =
     let w = start .args .w in
     let few = start .pre .1 .few in
     toZ-ofZ (sfits-of (c .off .ok)) ∙ c .off .ensures
-    ∙ rw (toZ-ofZ (sfits-of {w = w16} {z = at x (start .args .i)} (c .before .before .before .off-arg .given)), toZ-ofZ (sfits-of (c .before .mean-in .ok)), c .before .mean-in .ensures .0, toZ-ofZ (sfits-abs {w = w32} (w .sum) (omega arith)))
+    ∙ rw (toZ-ofZ (sfits-of {w = w16} {z = at x (start .args .i)} (c .before .before .before .off-arg .given)), toZ-ofZ (sfits-of (c .before .mean-in .ok)), c .before .mean-in .ensures .0, read-abs w32 (w .sum) (omega arith))
 
 pub level-at-spec : {M : Type 1} → statement M
 level-at-spec =

@@ -12,8 +12,8 @@ use mir.Val.{toZ, ofZ}
 use mir.Facts.{toZ-ofZ, toZ-pos}
 use Rattle.num.specs.Sum.{sumZ}
 use Rattle.num.proofs.Abs.{sfits-abs, abs-quot-le}
+use Rattle.num.proofs.Read.{read-abs}
 use Rattle.vitals.proofs.Windows.{slice-size}
-use borrow.Author.Needs.{needs}
 use Rattle.vitals.proofs.steps.series.mean_of.Statement.{statement}
 use Rattle.vitals.proofs.steps.series.mean_of.Tie as tie
 
@@ -40,7 +40,7 @@ div-result c =
 returns : tie.Need-returns
 returns c =
     let x = c .before .args .x .now in
-    rw (value c, toZ-pos w32 {n = length x} (omega arith), toZ-ofZ (sfits-abs {w = w32} (quotZ (sumZ x) (pos (length x))) (omega (arith, size c)))) (refl, omega (arith, size c))
+    rw (value c, toZ-pos w32 {n = length x} (omega arith), read-abs w32 (quotZ (sumZ x) (pos (length x))) (omega (arith, size c))) (refl, omega (arith, size c))
 
 pub mean-of-spec : {M : Type 1} → statement M
 mean-of-spec = tie.close (tie.spec sum-of-requires cast-result div-result returns)

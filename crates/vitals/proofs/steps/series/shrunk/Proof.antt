@@ -6,10 +6,9 @@ use lib.IntN.{_-ℤ_}
 use mir.Syntax.{w16, w32}
 use mir.Val.{toZ, ofZ}
 use mir.Facts.{toZ-ofZ}
-use Rattle.num.proofs.Abs.{sfits-abs}
+use Rattle.num.proofs.Read.{read-abs}
 use Rattle.vitals.specs.Series.{at}
 use Rattle.vitals.proofs.Windows.{room, shorter}
-use borrow.Author.Needs.{needs}
 use Rattle.vitals.proofs.steps.series.shrunk.Statement.{statement}
 use Rattle.vitals.proofs.steps.series.shrunk.Tie as tie
 
@@ -24,7 +23,7 @@ less-requires c κs =
     let start = c .before .before in
     let w = start .args .w in
     let r = room (start .args .x .now) w (start .pre .0) (start .pre .1) (start .pre .2) in
-    rw (toZ-ofZ (sfits-abs {w = w32} (w .sum) (omega arith))) (omega arith)
+    rw (read-abs w32 (w .sum) (omega arith)) (omega arith)
 
 add-t8 : tie.Need-add-t8
 add-t8 c = search needs
@@ -37,7 +36,7 @@ returns c =
     let r = room x w (start .pre .0) (start .pre .1) (start .pre .2) in
     let e : toZ w32 (ofZ w32 (c .less .result)) ≡ w .sum -ℤ at x (w .lo) =
     toZ-ofZ (sfits-of (c .less .ok)) ∙ c .less .ensures
-    ∙ rw (toZ-ofZ (sfits-abs {w = w32} (w .sum) (omega arith)), toZ-ofZ (sfits-of {w = w16} {z = at x (w .lo)} (c .before .before .less-arg .given))) in
+    ∙ rw (read-abs w32 (w .sum) (omega arith), toZ-ofZ (sfits-of {w = w16} {z = at x (w .lo)} (c .before .before .less-arg .given))) in
     (shorter x w (start .pre .0) (start .pre .1) (start .pre .2) _ e (start .pre .3), refl, refl)
 
 pub shrunk-spec : {M : Type 1} → statement M

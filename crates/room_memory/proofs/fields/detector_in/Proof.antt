@@ -1,7 +1,7 @@
--- `room_memory::fields::detector_at` meets its contract. Assumes nothing.
+-- `room_memory::fields::detector_in` meets its contract. Assumes nothing.
 use borrow.Author.Needs.{needs}
-use Rattle.room_memory.proofs.fields.detector_at.Statement.{statement}
-use Rattle.room_memory.proofs.fields.detector_at.Tie as tie
+use Rattle.room_memory.proofs.fields.detector_in.Statement.{statement}
+use Rattle.room_memory.proofs.fields.detector_in.Tie as tie
 
 shared-slice-read-wide : tie.Need-shared-slice-read-wide
 shared-slice-read-wide c = search needs
@@ -48,8 +48,8 @@ u64-at-requires c κs = search needs
 returns : tie.Need-returns
 returns c = rw (c .before .before .before .before .before .wide .ensures, c .before .before .before .before .u16-at .ensures, c .before .before .before .u16-at2 .ensures, c .before .before .u32-at .ensures, c .u64-at .ensures)
 
-pub detector-at-spec : {M : Type 1} → statement M
-detector-at-spec =
+pub detector-in-spec : {M : Type 1} → statement M
+detector-in-spec =
     tie.close
     (tie.spec
     shared-slice-read-wide

@@ -1,7 +1,7 @@
--- `room_memory::fields::fall_at` meets its contract. Assumes nothing.
+-- `room_memory::fields::fall_in` meets its contract. Assumes nothing.
 use borrow.Author.Needs.{needs}
-use Rattle.room_memory.proofs.fields.fall_at.Statement.{statement}
-use Rattle.room_memory.proofs.fields.fall_at.Tie as tie
+use Rattle.room_memory.proofs.fields.fall_in.Statement.{statement}
+use Rattle.room_memory.proofs.fields.fall_in.Tie as tie
 
 shared-slice-read-t4 : tie.Need-shared-slice-read-t4
 shared-slice-read-t4 c = search needs
@@ -27,8 +27,8 @@ u64-at-requires-2 c κs = search needs
 returns : tie.Need-returns
 returns c = rw (c .before .before .u16-at .ensures, c .before .u64-at .ensures, c .u64-at2 .ensures)
 
-pub fall-at-spec : {M : Type 1} → statement M
-fall-at-spec =
+pub fall-in-spec : {M : Type 1} → statement M
+fall-in-spec =
     tie.close
     (tie.spec
     shared-slice-read-t4

@@ -1,7 +1,7 @@
--- `room_memory::fields::progress_at` meets its contract. Assumes nothing.
+-- `room_memory::fields::progress_in` meets its contract. Assumes nothing.
 use borrow.Author.Needs.{needs}
-use Rattle.room_memory.proofs.fields.progress_at.Statement.{statement}
-use Rattle.room_memory.proofs.fields.progress_at.Tie as tie
+use Rattle.room_memory.proofs.fields.progress_in.Statement.{statement}
+use Rattle.room_memory.proofs.fields.progress_in.Tie as tie
 
 shared-slice-read-wide : tie.Need-shared-slice-read-wide
 shared-slice-read-wide c = search needs
@@ -48,8 +48,8 @@ cast-t17 c = search needs
 returns : tie.Need-returns
 returns c = rw (c .before .before .before .before .wide .ensures, c .before .before .before .u16-at .ensures, c .before .before .u16-at2 .ensures, c .before .u16-at3 .ensures, c .u16-at4 .ensures)
 
-pub progress-at-spec : {M : Type 1} → statement M
-progress-at-spec =
+pub progress-in-spec : {M : Type 1} → statement M
+progress-in-spec =
     tie.close
     (tie.spec
     shared-slice-read-wide
