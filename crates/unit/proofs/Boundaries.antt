@@ -1,52 +1,129 @@
 -- From a boundary on the plain room is one just begun: behind a reset L is empty, and a sample of another tag finds nothing of it.
-use mathlib.Core.Path.{_≡_, sym, ap, _∙_}
-use Prim.Native.Nat.{ℕ, _+_}
+use mathlib.Core.Path.{_≡_, refl, sym, ap, ap₂, _∙_}
+use Prim.Native.Nat.{ℕ, _+_, _-_, _*_, _≤_}
 use native.Mathlib.Omega.{arith}
 use mathlib.Core.Bool.{Bool, true, false, cond, _&&_}
-use mathlib.Core.List.{List, [], _∷_, _++_}
-use lib.ListN.{length}
+use mathlib.Core.Option.{Option, none, some}
+use mathlib.Core.List.{List, [], _∷_, _++_, foldl}
+use lib.ListN.{length, drop}
 use lib.Dec.{leb, eqb}
 use borrow.Author.Tests.{not-true}
-use Rattle.unit.specs.Records.{calibrated, Sample, Record, whole, sample, reset, Cut, cut}
-use Rattle.unit.specs.Answers.{refused, told}
-use Rattle.unit.specs.Sensing.{Sensing, howMany, Laws}
-use Rattle.unit.specs.Walk.{Walked, walk, runOf}
-use Rattle.unit.specs.Room.{Room, newRoom, toCalibrate, sameTag, otherTag, refusalOf, left, joined, findingOf, roomAnswer, roomNext, plain}
-use Rattle.unit.specs.Places.{Place, past, roomAt, spaceLeft, roomBefore, Boundary, behind-a-reset, at-another-tag, EmptyBehindAReset, OneTagSinceABoundary, CanBeginAnew}
+use Rattle.unit.specs.Records.{Mark, watched, calibrated, Event, took, noted, Record, whole, sample, reset, note, look, Cut, size, cut}
+use Rattle.unit.specs.Answers.{Answer, refused, told, saidAt}
+use Rattle.unit.specs.Sensing.{Sensing, detect, toCalibrate, calibratedIn, answersTo, Laws}
+use Rattle.unit.specs.Walk.{Walked, walk, before, runOf, shortOf}
+use Rattle.unit.specs.Room.{Room, newRoom, now, inForce, sameTag, otherTag, refusalOf, left, joined, findingOf, releasedBy, roomAnswers, roomNext, plain}
+use Rattle.unit.specs.Places.{Place, past, roomAt, spaceLeft, roomBefore, HasSpace, Boundary, behind-a-reset, at-another-tag, toList, answersBefore, inPlaceOf, spaceAtBoundary, EmptyBehindAReset, OneTagSinceABoundary, CanBeginAnew, withoutLooks, LooksLeaveNoTrace}
 use Rattle.num.proofs.Logic.{never}
 use Rattle.unit.proofs.Cutting.{whole-of, cut-append, cut-sizes}
-use Rattle.unit.proofs.Walking.{onward, further, go-on, walk-append, walk-used, walk-later, walk-same, walk-last}
-use Rattle.unit.proofs.Reached.{Reached, reached-new, reached-run, reached-then, begun-again}
+use Rattle.unit.proofs.Walking.{onward, further, go-on, behind, short-none, none-short, walk-cons, walk-append, walk-used, walk-later, walk-state, walk-last}
+use Rattle.unit.proofs.Reached.{Reached, reached-new, reached-run, reached-then, begins-with}
 
 module _ (S : Sensing) where
   -- ---- a sample of another tag is to the room what it is to a new one
 
-  module _ (room : Room S) (s : Sample) (other : otherTag S (room .L) s ≡ true) where
-    differs : sameTag S (room .L) s ≡ false
-    differs = go (room .L) other
-      where
-        go : (L : List Sample) → otherTag S L s ≡ true → sameTag S L s ≡ false
-        go [] h = absurd (never h)
-        go (x ∷ L) h = not-true _ h
+  module _ (laws : Laws S) (room : Room S) (k : Mark) (body : List ℕ) (ok : refusalOf S room k body ≡ 0) (other : otherTag S (room .L) body ≡ true) where
+    abbrev anew : Room S
+    anew = newRoom S (inForce S room)
 
-    same-refusal : refusalOf S room s ≡ refusalOf S (newRoom S (room .settings)) s
-    same-refusal =
-        ap (λ (b : Bool). cond (eqb (S .bytesRefusal (s .body)) 0)
-        (cond (toCalibrate (s .mark) && (b && leb (S .limit) (howMany calibrated (room .L)))) 8 0) (S .bytesRefusal (s .body)))
-        differs
+    differs : (L : List Event) → otherTag S L body ≡ true → sameTag S L body ≡ false
+    differs [] h = absurd (never h)
+    differs (took m b ∷ L) h = not-true _ h
+    differs (noted n b ∷ L) h = differs L h
 
-    none-left : left S (room .L) s ≡ []
-    none-left = ap (λ (b : Bool). cond b [] (room .L)) other
+    ok-anew : refusalOf S anew k body ≡ 0
+    unfolding detect
+    ok-anew =
+        ap (λ (b : Bool). cond (eqb (S .bytesRefusal (inForce S room) body) 0)
+        (cond (toCalibrate k && (b && leb (S .limit) (calibratedIn S (room .L)))) 8 0) (S .bytesRefusal (inForce S room) body)) (sym (differs (room .L) other))
+        ∙ ok
 
-    same-answer : roomAnswer S room (whole (sample (s .mark)) (s .body)) ≡ roomAnswer S (newRoom S (room .settings)) (whole (sample (s .mark)) (s .body))
-    same-answer = λ i. cond (eqb (same-refusal i) 0) (told (findingOf S (room .settings) (none-left i) s)) (refused (same-refusal i))
+    left-anew : left S room body ≡ anew
+    left-anew = ap (λ (b : Bool). cond b anew room) other
 
-    same-next : refusalOf S room s ≡ 0
-        → roomNext S room (whole (sample (s .mark)) (s .body)) ≡ roomNext S (newRoom S (room .settings)) (whole (sample (s .mark)) (s .body))
-    same-next h =
-        ap (λ (n : ℕ). cond (eqb n 0) (record { settings = room .settings; L = joined S (room .L) s }) room) h
-        ∙ ap (λ (l : List Sample). record { settings = room .settings; L = l ++ s ∷ [] }) none-left
-        ∙ sym (ap (λ (n : ℕ). cond (eqb n 0) (record { settings = room .settings; L = joined S [] s }) (newRoom S (room .settings))) (sym same-refusal ∙ h))
+    none-waits : releasedBy S anew (took k body) ≡ none
+    unfolding detect
+    none-waits = laws .none-waits (inForce S room) (took k body)
+
+    answers-here : roomAnswers S room (whole (sample k) body) ≡ answersTo S (toCalibrate k) (releasedBy S room (took k body)) (findingOf S anew (took k body))
+    answers-here =
+        ap (λ (n : ℕ). cond (eqb n 0) (answersTo S (toCalibrate k) (releasedBy S room (took k body)) (findingOf S (left S room body) (took k body))) (refused n ∷ [])) ok
+        ∙ ap (λ (x : Room S). answersTo S (toCalibrate k) (releasedBy S room (took k body)) (findingOf S x (took k body))) left-anew
+
+    answers-anew : roomAnswers S anew (whole (sample k) body) ≡ told (findingOf S anew (took k body)) ∷ []
+    answers-anew =
+        ap (λ (n : ℕ). cond (eqb n 0) (answersTo S (toCalibrate k) (releasedBy S anew (took k body)) (findingOf S anew (took k body))) (refused n ∷ [])) ok-anew
+        ∙ ap (λ (o : Option (S .Finding)). answersTo S (toCalibrate k) o (findingOf S anew (took k body))) none-waits
+
+    next-same : roomNext S room (whole (sample k) body) ≡ roomNext S anew (whole (sample k) body)
+    next-same =
+        ap (λ (n : ℕ). cond (eqb n 0) (joined S (left S room body) (took k body)) room) ok ∙ ap (λ (x : Room S). joined S x (took k body)) left-anew
+        ∙ sym (ap (λ (n : ℕ). cond (eqb n 0) (joined S anew (took k body)) anew) ok-anew)
+
+    -- the walks from there, where there is space for all answers
+    abbrev lines : List (Answer (S .Finding))
+    lines = toList S (releasedBy S room (took k body))
+
+    abbrev instead : ℕ
+    instead = cond (toCalibrate k) 0 (length lines)
+
+    abbrev alike : (space : ℕ) → (rs : List Record) (torn : Bool) → Type 0
+    alike space rs torn =
+        let w = walk S (plain S) anew 0 (space - S .answerSize * (length lines - instead)) (whole (sample k) body ∷ rs) torn in
+        walk S (plain S) room 0 space (whole (sample k) body ∷ rs) torn
+        ≡ record { answers = saidAt 0 lines ++ drop instead (w .answers); need = w .need; used = w .used; state = w .state }
+
+    module _ (space : ℕ) (rs : List Record) (torn : Bool) (fits : shortOf S space (length (roomAnswers S room (whole (sample k) body))) ≡ 0) where
+      abbrev r : Record
+      r = whole (sample k) body
+
+      -- from there with these answers written, the rest is the same walk
+      abbrev rest : (n : ℕ) → Walked S (Room S)
+      rest n = walk S (plain S) (roomNext S anew r) (0 + size r) n rs torn
+
+      here : (las : List (Answer (S .Finding))) → roomAnswers S room r ≡ las → walk S (plain S) room 0 space (r ∷ rs) torn ≡ before S (saidAt 0 las) (rest (space - S .answerSize * length las))
+      here las e =
+          walk-cons S (plain S) room 0 space r rs torn fits
+          ∙ ap₂ (λ (l : List (Answer (S .Finding))) (x : Room S). before S (saidAt 0 l) (walk S (plain S) x (0 + size r) (space - S .answerSize * length l) rs torn)) e next-same
+
+      abbrev own : Answer (S .Finding)
+      own = told (findingOf S anew (took k body))
+
+      there : (n : ℕ) → S .answerSize ≤ n → walk S (plain S) anew 0 n (r ∷ rs) torn ≡ before S (saidAt 0 (own ∷ [])) (rest (n - S .answerSize * 1))
+      there n enough =
+          walk-cons S (plain S) anew 0 n r rs torn (ap (λ (l : List (Answer (S .Finding))). shortOf S n (length l)) answers-anew ∙ none-short S n 1 enough (omega (arith, enough)))
+          ∙ ap (λ (l : List (Answer (S .Finding))). before S (saidAt 0 l) (walk S (plain S) (roomNext S anew r) (0 + size r) (n - S .answerSize * length l) rs torn)) answers-anew
+
+      -- so many answers had space
+      fitted : (las : List (Answer (S .Finding))) → roomAnswers S room r ≡ las → (S .answerSize ≤ space) × (S .answerSize * length las ≤ space)
+      fitted las e = short-none S space (length las) (ap (λ (l : List (Answer (S .Finding))). shortOf S space (length l)) (sym e) ∙ fits)
+
+      by : (c : Bool) (o : Option (S .Finding)) → roomAnswers S room r ≡ answersTo S c o (findingOf S anew (took k body))
+          → let i = cond c 0 (length (toList S o)) in
+          let w = walk S (plain S) anew 0 (space - S .answerSize * (length (toList S o) - i)) (r ∷ rs) torn in
+          walk S (plain S) room 0 space (r ∷ rs) torn
+          ≡ record { answers = saidAt 0 (toList S o) ++ drop i (w .answers); need = w .need; used = w .used; state = w .state }
+      by true none e =
+          here (own ∷ []) e
+          ∙ sym (there space (fitted (own ∷ []) e .0))
+          ∙ ap (λ (n : ℕ). walk S (plain S) anew 0 n (r ∷ rs) torn) (omega arith)
+      by false none e =
+          here (own ∷ []) e
+          ∙ sym (there space (fitted (own ∷ []) e .0))
+          ∙ ap (λ (n : ℕ). walk S (plain S) anew 0 n (r ∷ rs) torn) (omega arith)
+      by true (some l) e =
+          let n : ℕ = space - S .answerSize * 1 in
+          let f = fitted (told l ∷ own ∷ []) e in
+          here (told l ∷ own ∷ []) e
+          ∙ ap (λ (m : ℕ). before S (saidAt 0 (told l ∷ own ∷ [])) (rest m)) (omega arith)
+          ∙ ap (λ (w : Walked S (Room S)). before S (saidAt 0 (told l ∷ [])) w) (sym (there n (omega (arith, f .1))))
+      by false (some l) e =
+          here (told l ∷ []) e
+          ∙ ap (λ (w : Walked S (Room S)). record { answers = saidAt 0 (told l ∷ []) ++ drop 1 (w .answers); need = w .need; used = w .used; state = w .state })
+          (sym (there space (fitted (told l ∷ []) e .0)) ∙ ap (λ (n : ℕ). walk S (plain S) anew 0 n (r ∷ rs) torn) (omega arith))
+
+      pub as-begun : alike space rs torn
+      as-begun = by (toCalibrate k) (releasedBy S room (took k body)) answers-here
 
   -- ---- at a place
 
@@ -57,8 +134,8 @@ module _ (S : Sensing) where
         ap (λ (t : Bool). walk S (plain S) (roomBefore S P) 0 (length (P .space)) (cut (S .kinds) (P .behind) .records) t)
         (P .all-whole)
 
-    not-stopped : walk S (plain S) (roomBefore S P) 0 (length (P .space)) (cut (S .kinds) (P .behind) .records) false .refusal ≡ 0
-    not-stopped = ap {A = Walked S (Room S)} (λ x. x .refusal) (sym is-whole) ∙ P .all-answered
+    not-stopped : walk S (plain S) (roomBefore S P) 0 (length (P .space)) (cut (S .kinds) (P .behind) .records) false .need ≡ 0
+    not-stopped = ap {A = Walked S (Room S)} (λ x. x .need) (sym is-whole) ∙ P .all-answered
 
     used : past S P .used ≡ length (P .behind) + 0
     used =
@@ -78,27 +155,68 @@ module _ (S : Sensing) where
         ∙ ap (λ (n : ℕ). onward S (past S P) (walk S (plain S) (roomAt S P) n (spaceLeft S P) (cut (S .kinds) q .records) (cut (S .kinds) q .torn))) used
         ∙ ap (onward S (past S P)) (walk-later S (plain S) (length (P .behind)) (roomAt S P) 0 (spaceLeft S P) (cut (S .kinds) q .records) (cut (S .kinds) q .torn))
 
-  pub empty-behind-a-reset : EmptyBehindAReset S
-  empty-behind-a-reset P ps body e =
+  -- behind a reset there is a room just begun
+  behind-reset : (P : Place S) (ps : List Record) (body : List ℕ) → cut (S .kinds) (P .behind) .records ≡ ps ++ whole reset body ∷ []
+      → (σ : S .Settings) × (roomAt S P ≡ newRoom S σ)
+  behind-reset P ps body e =
       let is : past S P ≡ walk S (plain S) (roomBefore S P) 0 (length (P .space)) (ps ++ whole reset body ∷ []) false
       = is-whole P
       ∙ ap (λ (l : List Record). walk S (plain S) (roomBefore S P) 0 (length (P .space)) l false) e in
       let t = walk-last S (plain S) (roomBefore S P) 0 (length (P .space)) ps (whole reset body)
-      (ap {A = Walked S (Room S)} (λ x. x .refusal) (sym is) ∙ P .all-answered) in
-      ap {A = Walked S (Room S)} (λ x. x .state .L) is ∙ ap {A = Room S} (λ x. x .L) (t .1)
+      (ap {A = Walked S (Room S)} (λ x. x .need) (sym is) ∙ P .all-answered) in
+      (inForce S (t .0), ap {A = Walked S (Room S)} (λ x. x .state) is ∙ t .1)
 
-  -- the rest of a run from a boundary is that of a room just begun
-  pub from-boundary : (P : Place S) (q : List ℕ) → Boundary S P q
-      → runOf S (plain S) (roomAt S P) q (spaceLeft S P) ≡ runOf S (plain S) (newRoom S (roomAt S P .settings)) q (spaceLeft S P)
-  from-boundary P q (behind-a-reset ps body e) =
-      ap (λ (l : List Sample). runOf S (plain S) (record { settings = roomAt S P .settings; L = l }) q (spaceLeft S P)) (empty-behind-a-reset P ps body e)
-  from-boundary P q (at-another-tag {s = s} {rest = rest} e fits ok other) =
-      ap (λ (l : List Record). walk S (plain S) (roomAt S P) 0 (spaceLeft S P) l (cut (S .kinds) q .torn)) e
-      ∙ walk-same S (plain S) (roomAt S P) (newRoom S (roomAt S P .settings)) 0 (spaceLeft S P) (whole (sample (s .mark)) (s .body)) rest
-      (cut (S .kinds) q .torn) fits (same-answer (roomAt S P) s other) (same-next (roomAt S P) s other ok)
-      ∙ sym (ap (λ (l : List Record). walk S (plain S) (newRoom S (roomAt S P .settings)) 0 (spaceLeft S P) l (cut (S .kinds) q .torn)) e)
+  pub empty-behind-a-reset : EmptyBehindAReset S
+  empty-behind-a-reset P ps body e = ap {A = Room S} (λ x. x .L) (behind-reset P ps body e .1)
+
+  -- looks leave no trace
+  unlooked : (room : Room S) (rs : List Record) → foldl (roomNext S) room rs ≡ foldl (roomNext S) room (withoutLooks S rs)
+  unlooked room [] = refl
+  unlooked room (whole (sample k) body ∷ rs) = unlooked (roomNext S room (whole (sample k) body)) rs
+  unlooked room (whole reset body ∷ rs) = unlooked (roomNext S room (whole reset body)) rs
+  unlooked room (whole (note n) body ∷ rs) = unlooked (roomNext S room (whole (note n) body)) rs
+  unlooked room (whole (look n) body ∷ rs) = unlooked room rs
+
+  room-from : (P : Place S) → roomAt S P ≡ foldl (roomNext S) (roomBefore S P) (withoutLooks S (cut (S .kinds) (P .behind) .records))
+  room-from P =
+      ap {A = Walked S (Room S)} (λ x. x .state) (is-whole P)
+      ∙ walk-state S (plain S) (roomBefore S P) 0 (length (P .space)) (cut (S .kinds) (P .behind) .records) (not-stopped P)
+      ∙ unlooked (roomBefore S P) (cut (S .kinds) (P .behind) .records)
+
+  pub looks-leave-no-trace : LooksLeaveNoTrace S
+  looks-leave-no-trace P Q same equal = room-from P ∙ ap₂ (foldl (roomNext S)) same equal ∙ sym (room-from Q)
+
+  pub in-force-new : (σ : S .Settings) → inForce S (newRoom S σ) ≡ σ
+  unfolding detect
+  in-force-new σ = refl
 
   module _ (laws : Laws S) where
+    -- the rest of a run from a boundary is that of a room just begun, but for what counts as before it
+    pub from-boundary : (P : Place S) (q : List ℕ) (b : Boundary S P q)
+        → let w = runOf S (plain S) (newRoom S (inForce S (roomAt S P))) q (spaceAtBoundary S b) in
+        runOf S (plain S) (roomAt S P) q (spaceLeft S P)
+        ≡ record { answers = saidAt 0 (answersBefore S b) ++ drop (inPlaceOf S b) (w .answers); need = w .need; used = w .used; state = w .state }
+    from-boundary P q (behind-a-reset ps body e) =
+        let t = behind-reset P ps body e in
+        let same : roomAt S P ≡ newRoom S (inForce S (roomAt S P))
+        = t .1 ∙ ap (newRoom S) (sym (in-force-new (t .0))) ∙ ap (λ (x : Room S). newRoom S (inForce S x)) (sym (t .1)) in
+        ap₂ (λ (x : Room S) (n : ℕ). runOf S (plain S) x q n) same (omega arith)
+    from-boundary P q (at-another-tag k body rest e fits ok other) =
+        ap (λ (l : List Record). walk S (plain S) (roomAt S P) 0 (spaceLeft S P) l torn) e
+        ∙ as-begun laws (roomAt S P) k body ok other (spaceLeft S P) rest torn fits
+        ∙ sym (ap (λ (l : List Record).
+        let w = walk S (plain S) (newRoom S (inForce S (roomAt S P))) 0 (spaceLeft S P - S .answerSize * (length lines - instead)) l torn in
+        record { answers = saidAt 0 lines ++ drop instead (w .answers); need = w .need; used = w .used; state = w .state }) e)
+      where
+        torn : Bool
+        torn = cut (S .kinds) q .torn
+
+        lines : List (Answer (S .Finding))
+        lines = toList S (releasedBy S (roomAt S P) (took k body))
+
+        instead : ℕ
+        instead = cond (toCalibrate k) 0 (length lines)
+
     pub reached-at : (P : Place S) → Reached S (length (P .memory)) (roomAt S P)
     reached-at P = reached-run S laws (P .behind) (length (P .space)) (reached-then S laws (P .calls) (reached-new S (length (P .memory)) (P .given) (P .accepted)))
 
@@ -106,4 +224,4 @@ module _ (S : Sensing) where
     one-tag-since-a-boundary P = let R = reached-at P in (R .tag, R .together)
 
     pub can-begin-anew : CanBeginAnew S
-    can-begin-anew P = let R = reached-at P in (R .given, R .set, begun-again S R)
+    can-begin-anew P = let B = reached-at P .present in (B .given, B .set, begins-with S B)

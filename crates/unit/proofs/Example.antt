@@ -3,22 +3,25 @@ use mathlib.Core.Path.{_≡_, refl, sym, ap, _∙_}
 use Prim.Native.Nat.{ℕ, _+_, _≤_, min}
 use native.Mathlib.Omega.{arith}
 use mathlib.Core.Bool.{Bool, true, false, cond, _&&_}
+use mathlib.Core.Option.{Option, none, some}
 use mathlib.Core.List.{List, [], _∷_, _++_}
 use lib.ListN.{length, getD, replicate}
 use lib.Dec.{ltb, leb, eqb}
-use borrow.Author.Tests.{eqb-true}
-use Rattle.unit.specs.Records.{Mark, watched, calibrated, kindsFor, Cut, cut, cutF}
+use borrow.Author.Tests.{eqb-true, ltb-true, ltb-false, lt-ltb, le-ltb}
+use Rattle.unit.specs.Records.{Mark, watched, calibrated, Event, took, noted, kindsFor, Cut, cut, cutF}
 use Rattle.unit.specs.Answers.{refused}
-use Rattle.unit.specs.Sensing.{Sensing, count, detect, Laws}
+use Rattle.unit.specs.Sensing.{Sensing, Now, after, counted, count, howMany, detect, Laws, WarmUp, Warms}
 use Rattle.unit.specs.Walk.{Walked, walk, runOf, returned, spaceAfter}
-use Rattle.unit.specs.Unit.{View}
+use Rattle.unit.specs.Unit.{View, unitReply, unitAsked, fedNote}
 use Rattle.unit.specs.Room.{Room, newRoom, plain}
-use Rattle.unit.specs.Calls.{Return, begun, ran, Call, begin, run, beginRefusal}
-use Rattle.unit.specs.Promises.{Memory, NewMemory, meant, refusedRun, RanSo, Kept, begins, runs, Keeps}
+use Rattle.unit.specs.Calls.{Return, begun, ran, replied, Call, begin, run, ask, beginRefusal}
+use Rattle.unit.specs.Promises.{Memory, NewMemory, meant, refusedRun, RanSo, AskedSo, Kept, begins, runs, asks, Keeps}
 use Rattle.unit.specs.Demand3.{Demand3}
+use Rattle.num.proofs.Logic.{never}
+use Rattle.num.proofs.Cond.{no-none}
 use Rattle.unit.proofs.Cutting.{sizes}
 use Rattle.unit.proofs.Refusals.{all-refused-same}
-use Rattle.unit.proofs.Filling.{Fills, warms-by}
+use Rattle.unit.proofs.Filling.{Fills, warms-by, many-took, many-noted}
 use Rattle.unit.proofs.Demand3.{demand3}
 
 -- ---- a sensing: W is 1 to 8; a sample is a tag from 1 to 4, a value and a 1; a full window says the last value
@@ -40,10 +43,26 @@ abbrev foundAs : Mark → ℕ → Window → (value : ℕ) → Finding
 foundAs watched w h v = cond (ltb (min w (h .filled + 1)) w) warming (value v)
 foundAs calibrated w h v = frames (h .calibrated-so-far + 1)
 
+abbrev feeds : ℕ → Window → Event → Window
+feeds w h (took k body) = fedAs k w h
+feeds w h (noted n body) = record { filled = h .filled; calibrated-so-far = 0 }
+
+abbrev finds : ℕ → Window → Event → Finding
+finds w h (took k body) = foundAs k w h (getD body 1 0)
+finds w h (noted n body) = frames 0
+
 abbrev findingBytes : Finding → List ℕ
 findingBytes warming = 1 ∷ 0 ∷ 0 ∷ []
 findingBytes (value v) = 2 ∷ v ∷ 0 ∷ []
 findingBytes (frames n) = 3 ∷ n ∷ 0 ∷ []
+
+-- the host asks how many samples calibrate, or begins a new baseline
+data Question : Type 0 where
+  how-many renew : Question
+
+abbrev noteFor : Question → Option ℕ
+noteFor how-many = none
+noteFor renew = some 1
 
 abbrev small : Sensing
 small =
@@ -53,25 +72,42 @@ small =
       legal = λ w. leb 1 w && leb w 8;
       settings = λ w. w;
       memorySize = λ _. 4;
+      adjust = λ w n b. w;
       kinds = kindsFor 3;
-      bytesRefusal = λ b. cond (eqb (getD b 2 0) 1) (cond (leb 1 (getD b 0 0) && leb (getD b 0 0) 4) 0 4) 3;
+      bytesRefusal = λ w b. cond (eqb (getD b 2 0) 1) (cond (leb 1 (getD b 0 0) && leb (getD b 0 0) 4) 0 4) 3;
       tag = λ b. getD b 0 0;
       limit = 5;
+      renews = λ n. true;
       Held = Window;
       Finding = Finding;
       fresh = λ _. record { filled = 0; calibrated-so-far = 0 };
-      feed = λ w h s. fedAs (s .mark) w h;
-      find = λ w h s. foundAs (s .mark) w h (getD (s .body) 1 0);
+      feed = feeds;
+      find = finds;
+      releases = λ w h e. none;
       frames = λ h. h .calibrated-so-far;
+      Asked = Question;
+      Reply = ℕ;
+      reply = λ w h q. h .calibrated-so-far;
+      notes = λ w h q. noteFor q;
+      unfit = λ q. 99;
       answerSize = 3;
       refusedBytes = λ n at. 0 ∷ n ∷ at ∷ [];
       restartedBytes = 4 ∷ 0 ∷ 0 ∷ [];
       toldBytes = findingBytes;
     }
 
-frames-by : (k : Mark) (w : ℕ) (h : Window) → fedAs k w h .calibrated-so-far ≡ h .calibrated-so-far + count calibrated k
-frames-by watched w h = omega arith
-frames-by calibrated w h = refl
+frames-by : (w : ℕ) (h : Window) (e : Event) → feeds w h e .calibrated-so-far ≡ counted small (h .calibrated-so-far) e
+frames-by w h (took watched body) = omega arith
+frames-by w h (took calibrated body) = refl
+frames-by w h (noted n body) = refl
+
+-- a tag from 1 to 4 is not 0
+tagged : (b : List ℕ) → small .bytesRefusal 0 b ≡ 0 → getD b 0 0 ≡ 0 → ⊥
+tagged b h z = go (eqb (getD b 2 0) 1) h
+  where
+    go : (c : Bool) → _≡_ {A = ℕ} (cond c (cond (leb 1 (getD b 0 0) && leb (getD b 0 0) 4) 0 4) 3) 0 → ⊥
+    go true h = let e : _≡_ {A = ℕ} (cond (leb 1 0 && leb 0 4) 0 4) 0 = ap (λ (n : ℕ). cond (leb 1 n && leb n 4) 0 4) (sym z) ∙ h in omega (arith, e)
+    go false h = omega (arith, h)
 
 size-by : (f : Finding) → length (findingBytes f) ≡ 3
 size-by warming = refl
@@ -83,7 +119,12 @@ laws =
     record {
       some-may-calibrate = omega arith;
       no-frames = λ σ. refl;
-      frames-fed = λ σ h s _ _. frames-by (s .mark) σ h;
+      frames-fed = frames-by;
+      tagged = λ w. tagged;
+      none-waits = λ w e. refl;
+      adjusts = λ g n b ok. (g, ok, refl);
+      adjusts-size = λ w n b. refl;
+      adjusts-bytes = λ w n b c. refl;
       refused-size = λ n at. refl;
       restarted-size = refl;
       told-size = size-by;
@@ -94,30 +135,51 @@ saysWarming warming = true
 saysWarming (value v) = false
 saysWarming (frames n) = false
 
-fills : Fills small (λ w. w) saysWarming
-fills =
-    record {
-      Fed = λ σ t h. h .filled ≤ σ;
-      filled = λ h. h .filled;
-      new = λ g t ok. omega arith;
-      none = λ g ok. refl;
-      fed = λ σ t h s f b e. low (s .mark) σ h f;
-      fills = λ σ t h s f b e. by (s .mark) σ h f;
-      says = λ σ t h s f b e k. ap (λ (m : Mark). saysWarming (foundAs m σ h (getD (s .body) 1 0))) k ∙ said (ltb (min σ (h .filled + 1)) σ) (getD (s .body) 1 0)
-          ∙ ap (λ (m : Mark). ltb (fedAs m σ h .filled) σ) (sym k);
-    }
+-- it is a watch line
+abbrev isLine : Finding → Bool
+isLine warming = true
+isLine (value v) = true
+isLine (frames n) = false
+
+record Filled (w : ℕ) (L : List Event) (x : Now small) : Type 0 where
+  same : x .settings ≡ w
+  so-many : x .held .filled ≡ min w (howMany watched L)
+
+filled-by : (w : ℕ) (L : List Event) (x : Now small) (e : Event) → Filled w L x → Filled w (L ++ e ∷ []) (after small x e)
+filled-by w L x (took watched body) f = record { same = f .same; so-many = omega (arith, f .same, f .so-many, many-took watched watched body L) }
+filled-by w L x (took calibrated body) f = record { same = f .same; so-many = omega (arith, f .so-many, many-took watched calibrated body L) }
+filled-by w L x (noted n body) f = record { same = f .same; so-many = f .so-many ∙ ap (min w) (sym (many-noted watched n body L)) }
+
+says : (w : ℕ) (L : List Event) (x : Now small) (e : Event) → Filled w L x → isLine (finds (x .settings) (x .held) e) ≡ true
+    → saysWarming (finds (x .settings) (x .held) e) ≡ ltb (howMany watched (L ++ e ∷ [])) w
+says w L x (took watched body) f h =
+    said (ltb (min (x .settings) (x .held .filled + 1)) (x .settings)) (getD body 1 0) ∙ go (ltb (howMany watched (L ++ took watched body ∷ [])) w) refl
   where
-    low : (k : Mark) (w : ℕ) (h : Window) → h .filled ≤ w → fedAs k w h .filled ≤ w
-    low watched w h f = omega arith
-    low calibrated w h f = f
-
-    by : (k : Mark) (w : ℕ) (h : Window) → h .filled ≤ w → fedAs k w h .filled ≡ min w (h .filled + count watched k)
-    by watched w h f = refl
-    by calibrated w h f = omega arith
-
     said : (b : Bool) (v : ℕ) → saysWarming (cond b warming (value v)) ≡ b
     said true v = refl
     said false v = refl
+
+    go : (c : Bool) → ltb (howMany watched (L ++ took watched body ∷ [])) w ≡ c → ltb (min (x .settings) (x .held .filled + 1)) (x .settings) ≡ c
+    go true e = lt-ltb (min (x .settings) (x .held .filled + 1)) (x .settings) (omega (arith, f .same, f .so-many, many-took watched watched body L, ltb-true (howMany watched (L ++ took watched body ∷ [])) w e))
+    go false e = le-ltb (min (x .settings) (x .held .filled + 1)) (x .settings) (omega (arith, f .same, f .so-many, many-took watched watched body L, ltb-false (howMany watched (L ++ took watched body ∷ [])) w e))
+says w L x (took calibrated body) f h = absurd (never h)
+says w L x (noted n body) f h = absurd (never h)
+
+abbrev shows : WarmUp small
+shows = record { width = λ w. w; line = isLine; says = saysWarming; fedIn = howMany watched }
+
+fills : Fills small shows
+fills =
+    record {
+      Fed = λ w t L x. Filled w L x;
+      new = λ g t ok. record { same = refl; so-many = omega arith };
+      fed = λ w t L x e f _. filled-by w L x e f;
+      own = λ w t L x e f _. says w L x e f;
+      released = λ w t L x e f _ h. no-none h;
+    }
+
+warms : Warms small shows
+warms = warms-by small shows fills
 
 -- ---- a memory of four numbers
 
@@ -145,17 +207,19 @@ stored-back (a ∷ b ∷ c ∷ d ∷ e ∷ l) h = absurd (omega arith)
 
 -- ---- a unit, as a function of the memory and the call
 
-abbrev gives : List ℕ → Call small → Return
+abbrev gives : List ℕ → Call small → Return small
 gives m (begin w) = begun (beginRefusal small w (length m))
 gives m (run records space) =
     let w = meant small four m records space in
     ran (cond (eqb (length m) 4) (returned small w) refusedRun) (cond (eqb (length m) 4) (spaceAfter small w space) space)
+gives m (ask q) = replied (cond (eqb (length m) 4) (unitReply small (four .view m) q) 99)
 
 abbrev leaves : List ℕ → Call small → List ℕ
 leaves m (begin w) = cond (eqb (beginRefusal small w (length m)) 0) (four .new w) m
 leaves m (run records space) = cond (eqb (length m) 4) (stored (meant small four m records space .state)) m
+leaves m (ask q) = cond (eqb (length m) 4) (stored (unitAsked small (four .view m) q)) m
 
-data Called : List ℕ → Call small → Return → List ℕ → Type 0 where
+data Called : List ℕ → Call small → Return small → List ℕ → Type 0 where
   called : (m : List ℕ) (c : Call small) → Called m c (gives m c) (leaves m c)
 
 ran-so : (m records space : List ℕ)
@@ -182,19 +246,40 @@ ran-so m records space =
     as-long true e = sym (eqb-true _ _ e)
     as-long false e = refl
 
+asked-so : (m : List ℕ) (q : Question) → AskedSo small four m q (cond (eqb (length m) 4) (unitReply small (four .view m) q) 99)
+    (cond (eqb (length m) 4) (stored (unitAsked small (four .view m) q)) m)
+asked-so m q =
+    record {
+      answer = refl;
+      is-good = λ g. ap (λ (b : Bool). eqb (length (cond b (stored v) m)) 4) g;
+      is-next = λ g. ap (λ (b : Bool). four .view (cond b (stored v) m)) g;
+      refused = λ g. ap (λ (b : Bool). cond b (stored v) m) g;
+      unchanged = λ g h.
+          ap (λ (b : Bool). cond b (stored v) m) g ∙ ap (λ (o : Option ℕ). stored (fedNote small (four .view m) o)) h ∙ stored-back m (eqb-true _ _ g);
+      long = as-long (eqb (length m) 4) refl;
+    }
+  where
+    v : View small
+    v = unitAsked small (four .view m) q
+
+    as-long : (b : Bool) → eqb (length m) 4 ≡ b → length (cond b (stored v) m) ≡ length m
+    as-long true e = sym (eqb-true _ _ e)
+    as-long false e = refl
+
 keeps-call : (m : List ℕ) (c : Call small) → Kept small four m c (gives m c) (leaves m c)
 keeps-call m (begin w) = begins (record { answer = refl; leaves = refl })
 keeps-call m (run records space) = runs (ran-so m records space)
+keeps-call m (ask q) = asks (asked-so m q)
 
 keeps : Keeps small four Called
 keeps m c r m′ C = by C
   where
-    by : {n n′ : List ℕ} {d : Call small} {q : Return} → Called n d q n′ → Kept small four n d q n′
+    by : {n n′ : List ℕ} {d : Call small} {q : Return small} → Called n d q n′ → Kept small four n d q n′
     by (called n d) = keeps-call n d
 
 -- demand 3 of this unit
-example : Demand3 small Called (warms-by small (λ w. w) saysWarming fills)
-example = demand3 small laws four four-new Called keeps (warms-by small (λ w. w) saysWarming fills)
+example : Demand3 small Called shows
+example = demand3 small laws four four-new Called keeps shows warms
 
 -- ---- two runs, computed
 

@@ -8,15 +8,15 @@ use lib.Dec.{eqb}
 use borrow.Author.Tests.{eqb-true}
 use Rattle.unit.specs.Sensing.{Sensing, detect, Laws}
 use Rattle.unit.specs.Walk.{Walked, runOf, returned, spaceAfter}
-use Rattle.unit.specs.Unit.{View, unit}
-use Rattle.unit.specs.Room.{Room, newRoom, plain}
-use Rattle.unit.specs.Calls.{Return, begun, ran, Call, begin, run, beginRefusal, roomReturn, roomAfter, returns}
-use Rattle.unit.specs.Promises.{Memory, NewMemory, Begun, RanSo, meant, refusedRun, Kept, begins, runs, Keeps}
+use Rattle.unit.specs.Unit.{View, unit, unitReply, unitAsked}
+use Rattle.unit.specs.Room.{Room, newRoom, now, plain}
+use Rattle.unit.specs.Calls.{Return, begun, ran, replied, Call, begin, run, ask, beginRefusal, roomReturn, roomAfter, returns}
+use Rattle.unit.specs.Promises.{Memory, NewMemory, Begun, RanSo, AskedSo, meant, refusedRun, Kept, begins, runs, asks, Keeps}
 use Rattle.unit.specs.Demand3.{Execution, done, call, AsThePlainRoom}
 use Rattle.unit.specs.declared.Ran.{Ran}
 use Rattle.unit.proofs.Walking.{leaving}
-use Rattle.unit.proofs.Reached.{Reached, reached-new, reached-run, fits-by}
-use Rattle.unit.proofs.Rooms.{meaning, run-alike}
+use Rattle.unit.proofs.Reached.{Reached, reached-new, reached-run, reached-after, suits-by}
+use Rattle.unit.proofs.Rooms.{meaning, fed-note, run-alike}
 
 module _ (S : Sensing) (laws : Laws S) (M : Memory S) (new-memory : NewMemory S M) where
   -- a memory that the unit left, and the room whose L it has accepted
@@ -25,7 +25,7 @@ module _ (S : Sensing) (laws : Laws S) (M : Memory S) (new-memory : NewMemory S 
     pub means : M .view m ≡ meaning S room
     pub reached : Reached S (length m) room
 
-  pub record Goes (m : List ℕ) (c : Call S) (r : Return) (m′ : List ℕ) (room : Room S) : Type 0 where
+  pub record Goes (m : List ℕ) (c : Call S) (r : Return S) (m′ : List ℕ) (room : Room S) : Type 0 where
     pub same : r ≡ roomReturn S (length m) room c
     pub long : length m′ ≡ length m
     pub holds : Holds m′ (roomAfter S (length m) room c)
@@ -38,7 +38,7 @@ module _ (S : Sensing) (laws : Laws S) (M : Memory S) (new-memory : NewMemory S 
   is-new : (m m′ : List ℕ) (g : S .Given) → beginRefusal S g (length m) ≡ 0 → m′ ≡ M .new g → New m m′ g
   unfolding detect
   is-new m m′ g ok is =
-      let f = fits-by (S .legal g) (length m) (S .memorySize (S .settings g)) ok in
+      let f = suits-by (S .legal g) (length m) (S .memorySize (S .settings g)) ok in
       let long : length m′ ≡ length m = ap length is ∙ new-memory .long g (f .in-range) ∙ sym (f .as-long) in
       record {
         long = long;
@@ -78,30 +78,43 @@ module _ (S : Sensing) (laws : Laws S) (M : Memory S) (new-memory : NewMemory S 
           };
         }
 
-  goes : {m m′ : List ℕ} {c : Call S} {r : Return} (room : Room S) → Kept S M m c r m′ → Holds m room → Goes m c r m′ room
+  ask-goes : (m : List ℕ) (a : S .Asked) (r : S .Reply) (m′ : List ℕ) (room : Room S) → AskedSo S M m a r m′ → Holds m room → Goes m (ask a) (replied r) m′ room
+  ask-goes m a r m′ room A h =
+      record {
+        same = ap replied (A .answer ∙ ap (λ (b : Bool). cond b (unitReply S (M .view m) a) (S .unfit a)) (h .is-good) ∙ ap (λ (v : View S). unitReply S v a) (h .means));
+        long = A .long;
+        holds = record {
+          is-good = A .is-good (h .is-good);
+          means = A .is-next (h .is-good) ∙ ap (λ (v : View S). unitAsked S v a) (h .means) ∙ fed-note S room (S .notes (now S room .settings) (now S room .held) a);
+          reached = rw (A .long) (reached-after S laws (ask a) (h .reached));
+        };
+      }
+
+  goes : {m m′ : List ℕ} {c : Call S} {r : Return S} (room : Room S) → Kept S M m c r m′ → Holds m room → Goes m c r m′ room
   goes room (begins {m = m} {m′ = m′} {g = g} {r = r} B) h = begin-goes m g r m′ room B h
   goes room (runs {m = m} {m′ = m′} {records = b} {space = s} {space′ = t} {r = r} R) h = run-goes m b s r m′ t room R h
+  goes room (asks {m = m} {m′ = m′} {a = a} {r = r} A) h = ask-goes m a r m′ room A h
 
-  first : {m m′ : List ℕ} {g : S .Given} {r : Return} → beginRefusal S g (length m) ≡ 0 → Kept S M m (begin g) r m′ → (r ≡ begun 0) × New m m′ g
+  first : {m m′ : List ℕ} {g : S .Given} {r : Return S} → beginRefusal S g (length m) ≡ 0 → Kept S M m (begin g) r m′ → (r ≡ begun 0) × New m m′ g
   first ok (begins {m = m} {m′ = m′} {g = g} {r = r} B) =
       (ap begun (B .answer ∙ ok), is-new m m′ g ok (B .leaves ∙ ap (λ (n : ℕ). cond (eqb n 0) (M .new g) m) ok))
 
-  module _ (Called : List ℕ → Call S → Return → List ℕ → Type 0) (keeps : Keeps S M Called) where
-    from-here : {m m′ : List ℕ} {cs : List (Call S)} {rs : List Return} (room : Room S) → Execution S Called m cs rs m′ → Holds m room
+  module _ (Called : List ℕ → Call S → Return S → List ℕ → Type 0) (keeps : Keeps S M Called) where
+    from-here : {m m′ : List ℕ} {cs : List (Call S)} {rs : List (Return S)} (room : Room S) → Execution S Called m cs rs m′ → Holds m room
         → rs ≡ returns S (length m) room cs
     unfolding returns
     from-here room done h = refl
     from-here room (call {m = m} {m′ = n} {c = c} {r = r} {cs = cs} C E) h =
         let g = goes room (keeps m c r n C) h in
-        ap₂ {A = Return} {B = List Return} _∷_ (g .same)
+        ap₂ {A = Return S} {B = List (Return S)} _∷_ (g .same)
         (from-here (roomAfter S (length m) room c) E (g .holds)
         ∙ ap (λ (k : ℕ). returns S k (roomAfter S (length m) room c) cs) (g .long))
 
-    started : {m m′ : List ℕ} {g : S .Given} {cs : List (Call S)} {rs : List Return} → Execution S Called m (begin g ∷ cs) rs m′
+    started : {m m′ : List ℕ} {g : S .Given} {cs : List (Call S)} {rs : List (Return S)} → Execution S Called m (begin g ∷ cs) rs m′
         → beginRefusal S g (length m) ≡ 0 → rs ≡ begun 0 ∷ returns S (length m) (newRoom S (S .settings g)) cs
     started {g = g} (call {m = m} {m′ = n} {r = r} {cs = cs} C E) ok =
         let f = first ok (keeps m (begin g) r n C) in
-        ap₂ {A = Return} {B = List Return} _∷_ (f .0)
+        ap₂ {A = Return S} {B = List (Return S)} _∷_ (f .0)
         (from-here (newRoom S (S .settings g)) E (f .1 .holds) ∙ ap (λ (k : ℕ). returns S k (newRoom S (S .settings g)) cs) (f .1 .long))
 
     pub as-the-plain-room : AsThePlainRoom S Called

@@ -1,67 +1,49 @@
--- A sensing warms (`Warms`) if each step fills its window by one watched sample, up to W, and says Warming until it is full.
-use mathlib.Core.Path.{_≡_, refl, ap, _∙_}
-use Prim.Native.Nat.{ℕ, _+_, _≤_, min}
+-- A sensing warms (`Warms`) by what holds of its detectors along L, step by step.
+use mathlib.Core.Path.{_≡_, refl, sym, ap, _∙_, subst}
+use Prim.Native.Nat.{ℕ, _+_}
 use native.Mathlib.Omega.{arith}
-use mathlib.Core.Bool.{Bool, true, false}
-use mathlib.Core.List.{List, [], _∷_, _++_, foldl}
+use mathlib.Core.Bool.{Bool, true}
+use mathlib.Core.Option.{some}
+use mathlib.Core.List.{List, [], _∷_, _++_, foldl, append-assoc, append-nil}
 use lib.Dec.{ltb}
-use borrow.Author.Tests.{lt-ltb, le-ltb, ltb-true, ltb-false}
-use Rattle.unit.specs.Records.{watched, Sample}
-use Rattle.unit.specs.Sensing.{Sensing, count, howMany, detect, OfTag, Warms}
-use Rattle.unit.proofs.Reached.{many-append}
+use Rattle.unit.specs.Records.{Mark, Event, took, noted}
+use Rattle.unit.specs.Sensing.{Sensing, Now, after, count, howMany, detect, Fits, OfTag, WarmUp, Warms}
+
+pub many-took : (k m : Mark) (body : List ℕ) (L : List Event) → howMany k (L ++ took m body ∷ []) ≡ howMany k L + count k m
+many-took k m body [] = omega arith
+many-took k m body (took j b ∷ L) = omega (arith, many-took k m body L)
+many-took k m body (noted n b ∷ L) = many-took k m body L
+
+pub many-noted : (k : Mark) (n : ℕ) (body : List ℕ) (L : List Event) → howMany k (L ++ noted n body ∷ []) ≡ howMany k L
+many-noted k n body [] = refl
+many-noted k n body (took j b ∷ L) = ap (λ (m : ℕ). count k j + m) (many-noted k n body L)
+many-noted k n body (noted m b ∷ L) = many-noted k n body L
 
 module _ (S : Sensing) where
-  -- `Fed σ t h`: h was fed with settings σ, and samples of the tag t alone
-  pub record Fills (width : S .Settings → ℕ) (warming : S .Finding → Bool) : Type 1 where
-    pub Fed : S .Settings → ℕ → S .Held → Type 0
-    pub filled : S .Held → ℕ
-    pub new : (g : S .Given) (t : ℕ) → S .legal g ≡ true → Fed (S .settings g) t (S .fresh (S .settings g))
-    pub none : (g : S .Given) → S .legal g ≡ true → filled (S .fresh (S .settings g)) ≡ 0
-    pub fed : (σ : S .Settings) (t : ℕ) (h : S .Held) (s : Sample) → Fed σ t h → S .bytesRefusal (s .body) ≡ 0 → S .tag (s .body) ≡ t
-        → Fed σ t (S .feed σ h s)
-    pub fills : (σ : S .Settings) (t : ℕ) (h : S .Held) (s : Sample) → Fed σ t h → S .bytesRefusal (s .body) ≡ 0 → S .tag (s .body) ≡ t
-        → filled (S .feed σ h s) ≡ min (width σ) (filled h + count watched (s .mark))
-    pub says : (σ : S .Settings) (t : ℕ) (h : S .Held) (s : Sample) → Fed σ t h → S .bytesRefusal (s .body) ≡ 0 → S .tag (s .body) ≡ t
-        → s .mark ≡ watched → warming (S .find σ h s) ≡ ltb (filled (S .feed σ h s)) (width σ)
+  -- `Fed σ t L x`: from the settings σ, x was made of the events L, whose samples have the tag t
+  pub record Fills (W : WarmUp S) : Type 1 where
+    pub Fed : S .Settings → ℕ → List Event → Now S → Type 0
+    pub new : (g : S .Given) (t : ℕ) → S .legal g ≡ true → Fed (S .settings g) t [] (record { settings = S .settings g; held = S .fresh (S .settings g) })
+    pub fed : (σ : S .Settings) (t : ℕ) (L : List Event) (x : Now S) (e : Event) → Fed σ t L x → Fits S σ t e → Fed σ t (L ++ e ∷ []) (after S x e)
+    pub own : (σ : S .Settings) (t : ℕ) (L : List Event) (x : Now S) (e : Event) → Fed σ t L x → Fits S σ t e → W .line (S .find (x .settings) (x .held) e) ≡ true
+        → W .says (S .find (x .settings) (x .held) e) ≡ ltb (W .fedIn (L ++ e ∷ [])) (W .width σ)
+    pub released : (σ : S .Settings) (t : ℕ) (L : List Event) (x : Now S) (e : Event) (f : S .Finding) → Fed σ t L x
+        → S .releases (x .settings) (x .held) e ≡ some f → W .says f ≡ ltb (W .fedIn (L ++ e ∷ [])) (W .width σ)
 
-  module _ (width : S .Settings → ℕ) (warming : S .Finding → Bool) (F : Fills width warming) where
-    filled-by : (σ : S .Settings) (t : ℕ) (h : S .Held) (L : List Sample) → F .Fed σ t h → OfTag S t L → F .filled h ≤ width σ
-        → F .Fed σ t (foldl (S .feed σ) h L) × (F .filled (foldl (S .feed σ) h L) ≡ min (width σ) (F .filled h + howMany watched L))
-    filled-by σ t h [] f T low = (f, omega arith)
-    filled-by σ t h (s ∷ L) f T low =
-        let e = F .fills σ t h s f (T .0) (T .1) in
-        let r = filled-by σ t (S .feed σ h s) L (F .fed σ t h s f (T .0) (T .1)) (T .2) (omega (arith, e)) in
-        (r .0, omega (arith, e, r .1))
+  module _ (W : WarmUp S) (F : Fills W) where
+    fed-from : (σ : S .Settings) (t : ℕ) (K L : List Event) (x : Now S) → F .Fed σ t K x → OfTag S σ t L → F .Fed σ t (K ++ L) (foldl (after S) x L)
+    fed-from σ t K [] x f T = subst (λ (l : List Event). F .Fed σ t l x) (sym (append-nil K)) f
+    fed-from σ t K (e ∷ L) x f T =
+        subst (λ (l : List Event). F .Fed σ t l (foldl (after S) (after S x e) L)) (append-assoc K (e ∷ []) L)
+        (fed-from σ t (K ++ e ∷ []) L (after S x e) (F .fed σ t K x e f (T .0)) (T .1))
 
-    of-tag-left : (t : ℕ) (L : List Sample) (s : Sample) → OfTag S t (L ++ s ∷ []) → OfTag S t L
-    of-tag-left t [] s T = tt
-    of-tag-left t (x ∷ L) s T = (T .0, T .1, of-tag-left t L s (T .2))
-
-    of-tag-last : (t : ℕ) (L : List Sample) (s : Sample) → OfTag S t (L ++ s ∷ []) → (S .bytesRefusal (s .body) ≡ 0) × (S .tag (s .body) ≡ t)
-    of-tag-last t [] s T = (T .0, T .1)
-    of-tag-last t (x ∷ L) s T = of-tag-last t L s (T .2)
-
-    not-full : (w a b : ℕ) → b ≡ min w a → ltb b w ≡ ltb a w
-    not-full w a b e = go (ltb a w) refl
-      where
-        go : (c : Bool) → ltb a w ≡ c → ltb b w ≡ c
-        go true h = lt-ltb b w (omega (arith, ltb-true a w h))
-        go false h = le-ltb b w (omega (arith, ltb-false a w h))
-
-    pub warms-by : Warms S
+    fed-all : (g : S .Given) → S .legal g ≡ true → (t : ℕ) (L : List Event) → OfTag S (S .settings g) t L → F .Fed (S .settings g) t L (detect S (S .settings g) L)
     unfolding detect
+    fed-all g ok t L T = fed-from (S .settings g) t [] L _ (F .new g t ok) T
+
+    pub warms-by : Warms S W
     warms-by =
         record {
-          width = width;
-          warming = warming;
-          warms = λ g ok t L s T k.
-              let σ : S .Settings = S .settings g in
-              let h : S .Held = foldl (S .feed σ) (S .fresh σ) L in
-              let n = F .none g ok in
-              let f = filled-by σ t (S .fresh σ) L (F .new g t ok) (of-tag-left t L s (T .of-tag)) (omega (arith, n)) in
-              let last = of-tag-last t L s (T .of-tag) in
-              let e = F .fills σ t h s (f .0) (last .0) (last .1) in
-              let m : count watched (s .mark) ≡ 1 = ap (count watched) k in
-              F .says σ t h s (f .0) (last .0) (last .1) k
-              ∙ not-full (width σ) (howMany watched (L ++ s ∷ [])) (F .filled (S .feed σ h s)) (omega (arith, e, m, f .1, n, many-append watched L s));
+          own = λ g ok t L e T f. F .own (S .settings g) t L (detect S (S .settings g) L) e (fed-all g ok t L T) f;
+          released = λ g ok t L e f T. F .released (S .settings g) t L (detect S (S .settings g) L) e f (fed-all g ok t L T);
         }

@@ -1,132 +1,153 @@
 -- The unit and the plain room are alike: `meaning room` is what a memory means whose unit has accepted just the room's L since the last boundary.
-use mathlib.Core.Path.{_≡_, refl, sym, ap, _∙_}
+use mathlib.Core.Path.{_≡_, refl, sym, ap, ap₂, _∙_}
 use Prim.Native.Nat.{ℕ, _+_, _≤_}
 use native.Mathlib.Omega.{arith}
 use mathlib.Core.Bool.{Bool, true, false, cond, not, _&&_}
-use mathlib.Core.List.{List, [], _∷_, _++_, foldl, foldl-append}
+use mathlib.Core.Option.{Option, none, some}
+use mathlib.Core.List.{List, [], _∷_, _++_, foldl}
 use lib.Dec.{leb, eqb}
-use borrow.Author.Tests.{eqb-true, lt-leb}
-use Rattle.unit.specs.Records.{Mark, watched, calibrated, Sample, Record, whole, sample, reset, cut}
-use Rattle.unit.specs.Answers.{refused, told}
-use Rattle.unit.specs.Sensing.{Sensing, howMany, detect, OfTag, Together, Laws}
+use borrow.Author.Tests.{eqb-true, lt-leb, eq-eqb, ne-eqb}
+use Rattle.unit.specs.Records.{Mark, watched, calibrated, Event, took, noted, Record, whole, sample, reset, note, look, cut}
+use Rattle.unit.specs.Answers.{Answer, refused, told}
+use Rattle.unit.specs.Sensing.{Sensing, Now, after, toCalibrate, counted, calibratedIn, detect, answersTo, Laws}
 use Rattle.unit.specs.Walk.{runOf}
-use Rattle.unit.specs.Unit.{View, kept, fullAfter, refusalIn, accepted, unitAnswer, unitNext, unit}
-use Rattle.unit.specs.Room.{Room, toCalibrate, sameTag, isFull, refusalOf, left, joined, roomAnswer, roomNext, plain}
+use Rattle.unit.specs.Unit.{View, newView, differs, kept, fullAfter, refusalIn, fedAs, finds, releasedIn, unitAnswers, unitNext, unit, fedNote}
+use Rattle.unit.specs.Room.{Room, newRoom, now, inForce, sameTag, otherTag, isFull, refusalOf, left, joined, findingOf, releasedBy, roomAnswers, roomNext, plain, withNote}
+use Rattle.num.proofs.Logic.{never}
 use Rattle.unit.proofs.Walking.{leaving, walks-alike}
-use Rattle.unit.proofs.Reached.{Reached, reached-next, none-together}
+use Rattle.unit.proofs.Reached.{Reached, reached-next, tagIn, Tagging, none-yet, all-of, tagging, now-joined}
 
 module _ (S : Sensing) where
-  -- the tag of L's samples; 0 where there are none
-  abbrev pub tagIn : List Sample → ℕ
-  tagIn [] = 0
-  tagIn (x ∷ L) = S .tag (x .body)
-
   abbrev pub meaning : Room S → View S
-  meaning room = record { settings = room .settings; tag = tagIn (room .L); held = detect S (room .settings) (room .L) }
+  meaning room = record { settings = inForce S room; tag = tagIn S (room .L); held = now S room .held }
 
-  -- what a sample finds in the unit is what new detectors are, fed what is left of L
-  kept-as : (room : Room S) (s : Sample) → kept S (meaning room) s ≡ detect S (room .settings) (left S (room .L) s)
+  pub meaning-new : (σ : S .Settings) → meaning (newRoom S σ) ≡ newView S σ
   unfolding detect
-  kept-as room s = go (room .L)
+  meaning-new σ = refl
+
+  -- fed an event, the unit means the room that the event has joined
+  pub fed-as : (room : Room S) (t : ℕ) (e : Event) → tagIn S (room .L ++ e ∷ []) ≡ t → fedAs S (meaning room) t e ≡ meaning (joined S room e)
+  fed-as room t e h i = record { settings = sym (now-joined S room e) i .settings; tag = sym h i; held = sym (now-joined S room e) i .held }
+
+  tag-noted : (L : List Event) (n : ℕ) (body : List ℕ) → tagIn S (L ++ noted n body ∷ []) ≡ tagIn S L
+  tag-noted [] n body = refl
+  tag-noted (took k b ∷ L) n body = refl
+  tag-noted (noted m b ∷ L) n body = tag-noted L n body
+
+  pub noted-as : (room : Room S) (n : ℕ) (body : List ℕ) → fedAs S (meaning room) (tagIn S (room .L)) (noted n body) ≡ meaning (joined S room (noted n body))
+  noted-as room n body = fed-as room (tagIn S (room .L)) (noted n body) (tag-noted (room .L) n body)
+
+  pub fed-note : (room : Room S) (o : Option ℕ) → fedNote S (meaning room) o ≡ meaning (withNote S room o)
+  fed-note room none = refl
+  fed-note room (some n) = noted-as room n []
+
+  tag-first : (L : List Event) (k : Mark) (body : List ℕ) → tagIn S L ≡ 0 → ((b : List ℕ) → sameTag S L b ≡ false) → tagIn S (L ++ took k body ∷ []) ≡ S .tag body
+  tag-first [] k body e h = refl
+  tag-first (took m b ∷ L) k body e h = let z : eqb (S .tag b) (S .tag b) ≡ false = h b in absurd (not-itself z)
     where
-      σ : S .Settings
-      σ = room .settings
+      not-itself : eqb (S .tag b) (S .tag b) ≡ false → ⊥
+      not-itself z = let y : true ≡ false = sym (eq-eqb (S .tag b) (S .tag b) refl) ∙ z in never (sym y)
+  tag-first (noted n b ∷ L) k body e h = tag-first L k body e h
 
-      same : (b : Bool) → cond b (detect S σ []) (S .fresh σ) ≡ detect S σ []
-      same true = refl
-      same false = refl
+  tag-more : (L : List Event) (k : Mark) (body : List ℕ) → (tagIn S L ≡ 0 → ⊥) → tagIn S (L ++ took k body ∷ []) ≡ tagIn S L
+  tag-more [] k body h = absurd (h refl)
+  tag-more (took m b ∷ L) k body h = refl
+  tag-more (noted n b ∷ L) k body h = tag-more L k body h
 
-      other : (b : Bool) (L : List Sample) → cond b (detect S σ L) (S .fresh σ) ≡ detect S σ (cond (not b) [] L)
-      other true L = refl
-      other false L = refl
-
-      go : (L : List Sample) → cond (eqb (S .tag (s .body)) (tagIn L)) (detect S σ L) (S .fresh σ) ≡ detect S σ (left S L s)
-      go [] = same (eqb (S .tag (s .body)) 0)
-      go (x ∷ L) = other (eqb (S .tag (s .body)) (S .tag (x .body))) (x ∷ L)
-
-  fed : (room : Room S) (s : Sample) → S .feed (room .settings) (kept S (meaning room) s) s ≡ detect S (room .settings) (joined S (room .L) s)
-  unfolding detect
-  fed room s =
-      ap (λ (h : S .Held). S .feed (room .settings) h s) (kept-as room s)
-      ∙ sym (foldl-append (S .feed (room .settings)) (S .fresh (room .settings)) (left S (room .L) s) (s ∷ []))
-
-  tag-joined : (L : List Sample) (s : Sample) → tagIn (joined S L s) ≡ S .tag (s .body)
-  tag-joined [] s = refl
-  tag-joined (x ∷ L) s = go (eqb (S .tag (s .body)) (S .tag (x .body))) refl
-    where
-      go : (b : Bool) → eqb (S .tag (s .body)) (S .tag (x .body)) ≡ b → tagIn (cond (not b) [] (x ∷ L) ++ s ∷ []) ≡ S .tag (s .body)
-      go true e = sym (eqb-true _ _ e)
-      go false e = refl
-
-  accepted-as : (room : Room S) (s : Sample) → accepted S (meaning room) s ≡ meaning (record { settings = room .settings; L = joined S (room .L) s })
-  accepted-as room s i = record { settings = room .settings; tag = sym (tag-joined (room .L) s) i; held = fed room s i }
-
+  -- the frames that the baseline counts are the calibrated samples
   module _ (laws : Laws S) where
-    -- the frames that the baseline counts are the calibrated samples
-    frames-from : (σ : S .Settings) (h : S .Held) (t : ℕ) (L : List Sample) → OfTag S t L → S .frames h + howMany calibrated L ≤ S .limit
-        → S .frames (foldl (S .feed σ) h L) ≡ S .frames h + howMany calibrated L
-    frames-from σ h t [] T n = omega arith
-    frames-from σ h t (s ∷ L) T n =
-        let e = laws .frames-fed σ h s (T .0) (omega arith) in
-        omega (arith, e, frames-from σ (S .feed σ h s) t L (T .2) (omega (arith, e)))
+    frames-from : (x : Now S) (n : ℕ) (L : List Event) → S .frames (x .held) ≡ n → S .frames (foldl (after S) x L .held) ≡ foldl (counted S) n L
+    frames-from x n [] h = h
+    frames-from x n (e ∷ L) h =
+        frames-from (after S x e) (counted S n e) L (laws .frames-fed (x .settings) (x .held) e ∙ ap (λ (k : ℕ). counted S k e) h)
 
-    pub frames-of : (σ : S .Settings) (t : ℕ) (L : List Sample) → Together S t L → S .frames (detect S σ L) ≡ howMany calibrated L
+    pub frames-of : (room : Room S) → S .frames (now S room .held) ≡ calibratedIn S (room .L)
     unfolding detect
-    frames-of σ t L T =
-        let e = laws .no-frames σ in
-        omega (arith, e, frames-from σ (S .fresh σ) t L (T .of-tag) (omega (arith, e, T .not-too-many)))
+    frames-of room = frames-from _ 0 (room .L) (laws .no-frames (room .settings))
 
-    -- 8, judged by the frames after any boundary, is 8 judged by L
-    full-as : (t : ℕ) (room : Room S) (s : Sample) → Together S t (room .L) → fullAfter S (s .mark) (kept S (meaning room) s) ≡ cond (isFull S (room .L) s) 8 0
-    full-as t room s T = ap (fullAfter S (s .mark)) (kept-as room s) ∙ go (s .mark) (room .L) T
-      where
-        σ : S .Settings
-        σ = room .settings
+    module _ {n : ℕ} (room : Room S) (R : Reached S n room) where
+      -- a sample's tag differs for the unit as it does for the room
+      differs-as : (body : List ℕ) → differs S (tagIn S (room .L)) body ≡ otherTag S (room .L) body
+      differs-as body = go (tagging S laws (room .settings) (R .tag) (room .L) (R .together .of-tag))
+        where
+          go : Tagging S (room .settings) (R .tag) (room .L) → differs S (tagIn S (room .L)) body ≡ otherTag S (room .L) body
+          go (none-yet x y z w o) = ap (λ (t : ℕ). differs S t body) z ∙ sym (y body)
+          go (all-of x y z w) =
+              ap (λ (t : ℕ). differs S t body) z ∙ ap (λ (b : Bool). cond b false (not (eqb (S .tag body) (R .tag)))) (ne-eqb (R .tag) 0 w) ∙ sym (y body)
 
-        none : _≡_ {A = ℕ} (cond (leb (S .limit) (S .frames (detect S σ []))) 8 0) 0
-        none =
-            ap (λ (b : Bool). cond b 8 0)
-            (lt-leb (S .limit) (S .frames (detect S σ [])) (omega (arith, frames-of σ 0 [] (none-together S 0), laws .some-may-calibrate)))
+      left-means : (b : Bool) → cond b (newView S (inForce S room)) (meaning room) ≡ meaning (cond b (newRoom S (inForce S room)) room)
+      left-means true = sym (meaning-new (inForce S room))
+      left-means false = refl
 
-        other : (b : Bool) (L : List Sample) → Together S t L
-            → fullAfter S calibrated (detect S σ (cond (not b) [] L)) ≡ cond (b && leb (S .limit) (howMany calibrated L)) 8 0
-        other true L T = ap (λ (n : ℕ). cond (leb (S .limit) n) 8 0) (frames-of σ t L T)
-        other false L T = none
+      pub kept-as : (body : List ℕ) → kept S (meaning room) body ≡ meaning (left S room body)
+      kept-as body =
+          ap (λ (b : Bool). cond b (newView S (inForce S room)) (meaning room)) (differs-as body) ∙ left-means (otherTag S (room .L) body)
 
-        go : (k : Mark) (L : List Sample) → Together S t L
-            → fullAfter S k (detect S σ (left S L s)) ≡ cond (toCalibrate k && (sameTag S L s && leb (S .limit) (howMany calibrated L))) 8 0
-        go watched L T = refl
-        go calibrated [] T = none
-        go calibrated (x ∷ L) T = other (eqb (S .tag (s .body)) (S .tag (x .body))) (x ∷ L) T
+      tag-joined : (k : Mark) (body : List ℕ) → tagIn S (left S room body .L ++ took k body ∷ []) ≡ S .tag body
+      tag-joined k body = go (tagging S laws (room .settings) (R .tag) (room .L) (R .together .of-tag))
+        where
+          go : Tagging S (room .settings) (R .tag) (room .L) → tagIn S (left S room body .L ++ took k body ∷ []) ≡ S .tag body
+          go (none-yet x y z w o) = rw (y body) (tag-first (room .L) k body z x)
+          go (all-of x y z w) = by (eqb (S .tag body) (R .tag)) refl
+            where
+              by : (c : Bool) → eqb (S .tag body) (R .tag) ≡ c → tagIn S (left S room body .L ++ took k body ∷ []) ≡ S .tag body
+              by true e = rw (y body ∙ ap not e) (tag-more (room .L) k body (λ q. w (sym z ∙ q)) ∙ z ∙ sym (eqb-true _ _ e))
+              by false e = rw (y body ∙ ap not e) refl
 
-    refusal-as : (t : ℕ) (room : Room S) (s : Sample) → Together S t (room .L) → refusalIn S (meaning room) s ≡ refusalOf S room s
-    refusal-as t room s T = ap (λ (n : ℕ). cond (eqb (S .bytesRefusal (s .body)) 0) n (S .bytesRefusal (s .body))) (full-as t room s T)
+      -- 8, judged by the frames after any boundary, is 8 judged by L
+      full-as : (k : Mark) (body : List ℕ) → fullAfter S k (kept S (meaning room) body .held) ≡ cond (isFull S (room .L) k body) 8 0
+      full-as k body = ap {A = View S} (λ v. fullAfter S k (v .held)) (kept-as body) ∙ go k
+        where
+          few : (x : Room S) → calibratedIn S (x .L) ≡ 0 → _≡_ {A = ℕ} (cond (leb (S .limit) (S .frames (now S x .held))) 8 0) 0
+          few x e = ap (λ (b : Bool). cond b 8 0) (lt-leb (S .limit) (S .frames (now S x .held)) (omega (arith, frames-of x, e, laws .some-may-calibrate)))
 
-    -- one record
-    module _ (room : Room S) where
-      same-answer : {n : ℕ} (r : Record) → Reached S n room → unitAnswer S (meaning room) r ≡ roomAnswer S room r
-      same-answer (whole (sample k) body) R = λ i.
-          let s : Sample = record { mark = k; body = body } in
-          let e = refusal-as (R .tag) room s (R .together) in
-          cond (eqb (e i) 0) (told (S .find (room .settings) (kept-as room s i) s)) (refused (e i))
-      same-answer (whole reset body) R = refl
+          Goal : (other same : Bool) → Type 0
+          Goal other same =
+              _≡_ {A = ℕ} (cond (leb (S .limit) (S .frames (now S (cond other (newRoom S (inForce S room)) room) .held))) 8 0)
+              (cond (same && leb (S .limit) (calibratedIn S (room .L))) 8 0)
 
-      next-cond : (s : Sample) (b : Bool)
-          → cond b (accepted S (meaning room) s) (meaning room) ≡ meaning (cond b (record { settings = room .settings; L = joined S (room .L) s }) room)
-      next-cond s true = accepted-as room s
-      next-cond s false = refl
+          by : Tagging S (room .settings) (R .tag) (room .L) → Goal (otherTag S (room .L) body) (sameTag S (room .L) body)
+          by (none-yet x y z w o) = rw (x body) (rw (y body) (few room w))
+          by (all-of x y z w) = rw (x body) (rw (y body) (which (eqb (S .tag body) (R .tag))))
+            where
+              which : (c : Bool) → Goal (not c) c
+              which true = ap (λ (m : ℕ). cond (leb (S .limit) m) 8 0) (frames-of room)
+              which false = few (newRoom S (inForce S room)) refl
 
-      same-next : {n : ℕ} (r : Record) → Reached S n room → unitNext S (meaning room) r ≡ meaning (roomNext S room r)
-      unfolding detect
-      same-next (whole (sample k) body) R =
-          let s : Sample = record { mark = k; body = body } in
-          ap (λ (n : ℕ). cond (eqb n 0) (accepted S (meaning room) s) (meaning room)) (refusal-as (R .tag) room s (R .together))
-          ∙ next-cond s (eqb (refusalOf S room s) 0)
-      same-next (whole reset body) R = refl
+          go : (m : Mark) → fullAfter S m (now S (left S room body) .held) ≡ cond (isFull S (room .L) m body) 8 0
+          go watched = refl
+          go calibrated = by (tagging S laws (room .settings) (R .tag) (room .L) (R .together .of-tag))
+
+      refusal-as : (k : Mark) (body : List ℕ) → refusalIn S (meaning room) k body ≡ refusalOf S room k body
+      refusal-as k body =
+          ap (λ (m : ℕ). cond (eqb (S .bytesRefusal (inForce S room) body) 0) m (S .bytesRefusal (inForce S room) body)) (full-as k body)
+
+      -- one record
+      same-answers : (r : Record) → unitAnswers S (meaning room) r ≡ roomAnswers S room r
+      same-answers (whole (sample k) body) =
+          ap₂ (λ (m : ℕ) (v : View S). cond (eqb m 0) (answersTo S (toCalibrate k) (releasedBy S room (took k body)) (finds S v (took k body))) (refused m ∷ []))
+          (refusal-as k body) (kept-as body)
+      same-answers (whole reset body) = refl
+      same-answers (whole (note m) body) = refl
+      same-answers (whole (look m) body) = refl
+
+      next-either : (k : Mark) (body : List ℕ) (b : Bool)
+          → cond b (fedAs S (kept S (meaning room) body) (S .tag body) (took k body)) (meaning room) ≡ meaning (cond b (joined S (left S room body) (took k body)) room)
+      next-either k body true =
+          ap (λ (v : View S). fedAs S v (S .tag body) (took k body)) (kept-as body) ∙ fed-as (left S room body) (S .tag body) (took k body) (tag-joined k body)
+      next-either k body false = refl
+
+      same-next : (r : Record) → unitNext S (meaning room) r ≡ meaning (roomNext S room r)
+      same-next (whole (sample k) body) =
+          ap (λ (m : ℕ). cond (eqb m 0) (fedAs S (kept S (meaning room) body) (S .tag body) (took k body)) (meaning room)) (refusal-as k body)
+          ∙ next-either k body (eqb (refusalOf S room k body) 0)
+      same-next (whole reset body) = sym (meaning-new (inForce S room))
+      same-next (whole (note m) body) = noted-as room m body
+      same-next (whole (look m) body) = refl
 
     -- a run
     pub run-alike : {n : ℕ} {room : Room S} (bytes : List ℕ) (space : ℕ) → Reached S n room
         → runOf S (unit S) (meaning room) bytes space ≡ leaving S meaning (runOf S (plain S) room bytes space)
     run-alike {n} {room} bytes space R =
-        walks-alike S (unit S) (plain S) meaning (Reached S n) (λ y r. same-answer y r) (λ y r. same-next y r) (λ y r. reached-next S laws r)
+        walks-alike S (unit S) (plain S) meaning (Reached S n) (λ y r I. same-answers y I r) (λ y r I. same-next y I r) (λ y r. reached-next S laws r)
         room 0 space (cut (S .kinds) bytes .records) (cut (S .kinds) bytes .torn) R

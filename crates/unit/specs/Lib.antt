@@ -6,6 +6,6 @@ pub mod Unit
 pub mod Room
 pub mod Calls
 pub mod Promises
-pub mod Steps
 pub mod Places
 pub mod Demand3
+pub mod Steps
