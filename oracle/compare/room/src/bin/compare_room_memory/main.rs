@@ -274,9 +274,10 @@ fn judge(
         return Err(format!("{:?} is due, ours {ran:?}", Ran::from(end)));
     }
     let full = number(before, at::BASELINE + 8, 2) == u64::from(MAX_CALIBRATED);
+    let boundary = is_boundary(before[at::TAG], records);
     if let [Answer::Calibrate { .. }] = due[..]
         && full
-        && before[at::TAG] == records[2]
+        && !boundary
     {
         due = vec![Answer::Refused {
             number: FULL,
@@ -300,7 +301,6 @@ fn judge(
         }
         Some(_) if !legal(after) => Err("the run left memory out of range".into()),
         Some(answer) => {
-            let boundary = records.get(2).is_none_or(|tag| *tag != before[at::TAG]);
             match !(built && boundary) || answers[..ANSWER_LEN] == answer_to_bytes(answer) {
                 true => Ok(()),
                 false => Err(format!("{answer:?} is due, ours {answers:02x?}")),
@@ -308,6 +308,11 @@ fn judge(
         }
         None => Ok(()),
     }
+}
+
+/// A reset is a boundary, and a sample of another tag than the memory's; tag 0 is none yet.
+fn is_boundary(tag: u8, record: &[u8]) -> bool {
+    record.get(2).is_none_or(|its| tag != 0 && *its != tag)
 }
 
 /// Nothing, or a record: most often one that is accepted, most often of the memory's own tag.
