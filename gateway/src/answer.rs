@@ -1,12 +1,23 @@
 //! Answers: what the unit says of a record.
 
+use std::fmt;
+
 use crate::refusal::Refusal;
 
 /// The length of an answer's bytes.
 pub const ANSWER_LEN: usize = 24;
 
-/// The answer to one record.
+/// The answer to one record. It is displayed as a line of the program roomlines, which stands in the
+/// repository too.
+///
+/// ```
+/// use volkjarp::{Answer, Refusal};
+///
+/// let refused = Answer::Refused { number: Refusal::Record, at: 143 };
+/// assert_eq!(refused.to_string(), "refused 9 at 143");
+/// ```
 #[derive(Debug, Clone, Copy, PartialEq, Eq)]
+#[non_exhaustive]
 pub enum Answer {
     /// The record was refused and changed nothing.
     Refused {
@@ -68,6 +79,50 @@ pub enum Rate {
         /// Ten times the rate a minute.
         tenths_per_minute: u16,
     },
+}
+
+impl fmt::Display for Answer {
+    fn fmt(&self, f: &mut fmt::Formatter<'_>) -> fmt::Result {
+        match self {
+            Answer::Refused { number, at } => write!(f, "refused {} at {at}", number.number()),
+            Answer::Calibrated { frames, mean } => write!(f, "calibrate {frames} {mean}"),
+            Answer::Reset => f.write_str("reset"),
+            Answer::Watched {
+                verdict,
+                motion,
+                permille,
+                ppm,
+                breathing,
+                heart,
+                fall,
+                distance,
+            } => {
+                let fall = if *fall { "fall" } else { "-" };
+                write!(f, "watch {verdict} {motion} {permille} {ppm} ")?;
+                write!(f, "{breathing} {heart} {fall} {distance}")
+            }
+        }
+    }
+}
+
+impl fmt::Display for Verdict {
+    fn fmt(&self, f: &mut fmt::Formatter<'_>) -> fmt::Result {
+        f.pad(match self {
+            Verdict::Warming => "warming",
+            Verdict::Absent => "absent",
+            Verdict::Present => "present",
+        })
+    }
+}
+
+impl fmt::Display for Rate {
+    fn fmt(&self, f: &mut fmt::Formatter<'_>) -> fmt::Result {
+        match self {
+            Rate::NotDue => f.pad("-"),
+            Rate::NotAccepted => f.pad("~"),
+            Rate::Accepted { tenths_per_minute } => tenths_per_minute.fmt(f),
+        }
+    }
 }
 
 impl Answer {
@@ -195,6 +250,17 @@ mod tests {
             other[place] = value;
             assert_eq!(Answer::from_bytes(&other), None, "byte {place}");
         }
+    }
+
+    #[test]
+    fn lines() {
+        let front = [1, 2, 200, 1, 1, 2, 3, 4, 5, 6, 7, 0, 2, 8, 1, 1];
+        let line = |front: &[u8]| answer(front).unwrap().to_string();
+        assert_eq!(line(&front), "watch present 200 513 460293 264 ~ fall 1027");
+        assert_eq!(line(&[1]), "watch warming 0 0 0 - - - 0");
+        assert_eq!(line(&[2, 7, 0, 0, 0, 9]), "calibrate 7 9");
+        assert_eq!(line(&[3]), "reset");
+        assert_eq!(line(&[0, 8, 0, 1]), "refused 8 at 256");
     }
 
     #[test]

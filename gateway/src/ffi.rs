@@ -1,4 +1,4 @@
-//! The unit's three calls, on slices. All unsafe code of this crate is here.
+//! The unit's calls and the sample's wire form, on slices. All unsafe code of this crate is here.
 
 /// What settings need.
 #[repr(C)]
@@ -18,8 +18,25 @@ pub struct Ran {
     pub used: usize,
 }
 
-// SAFETY: these are the signatures of libroom.a, as include/volkjarp.h has them; the structs are
-// above.
+/// What encoding returns.
+#[repr(C)]
+#[derive(Debug, Clone, Copy, PartialEq, Eq)]
+pub struct Encoded {
+    pub refusal: u64,
+    pub bytes: u64,
+}
+
+/// The numbers before the I/Q bytes of a sample.
+#[derive(Debug, Clone, Copy, PartialEq, Eq, Default)]
+pub struct Header {
+    pub at: u64,
+    pub rssi: i8,
+    pub channel: u8,
+    pub layout: u8,
+}
+
+// SAFETY: these are the signatures of the library, as include/volkjarp.h and crates/csi_stream_c
+// have them; the structs are above.
 unsafe extern "C" {
     fn room_memory_len(settings: *const u8, settings_len: usize) -> MemoryLen;
     fn room_begin(
@@ -36,6 +53,25 @@ unsafe extern "C" {
         answers: *mut u8,
         answers_len: usize,
     ) -> Ran;
+    fn csi_decode(
+        bytes: *const u8,
+        bytes_len: usize,
+        at: &mut u64,
+        rssi: &mut i8,
+        channel: &mut u8,
+        layout: &mut u8,
+        len: &mut u8,
+    ) -> u64;
+    fn csi_encode(
+        at: u64,
+        rssi: i8,
+        channel: u8,
+        layout: u8,
+        iq: *const u8,
+        iq_len: usize,
+        out: *mut u8,
+        out_len: usize,
+    ) -> Encoded;
 }
 
 /// The length of memory that these settings need, or the refusal.
@@ -77,6 +113,44 @@ pub fn run(memory: &mut [u8], records: &[u8], answers: &mut [u8]) -> Ran {
     }
 }
 
+/// The numbers before the I/Q bytes, which are all behind them; or the refusal.
+pub fn decode(bytes: &[u8]) -> Result<Header, u64> {
+    let mut h = Header::default();
+    let mut iq_len = 0;
+    // SAFETY: the pointer is a slice's and not null; the call reads within the length. The five
+    // references are to numbers apart from each other. It keeps nothing.
+    let refusal = unsafe {
+        csi_decode(
+            bytes.as_ptr(),
+            bytes.len(),
+            &mut h.at,
+            &mut h.rssi,
+            &mut h.channel,
+            &mut h.layout,
+            &mut iq_len,
+        )
+    };
+    if refusal == 0 { Ok(h) } else { Err(refusal) }
+}
+
+/// Writes a sample to the front of `out`.
+pub fn encode(h: &Header, iq: &[u8], out: &mut [u8]) -> Encoded {
+    // SAFETY: both pointers are slices' and not null. The borrows say that `out` is ours alone and
+    // apart from the I/Q bytes. The call reads and writes within the lengths and keeps nothing.
+    unsafe {
+        csi_encode(
+            h.at,
+            h.rssi,
+            h.channel,
+            h.layout,
+            iq.as_ptr(),
+            iq.len(),
+            out.as_mut_ptr(),
+            out.len(),
+        )
+    }
+}
+
 #[cfg(test)]
 mod tests {
     use super::*;
@@ -91,6 +165,8 @@ mod tests {
         assert_eq!(offset_of!(Ran, need), word);
         assert_eq!(offset_of!(Ran, answers), 2 * word);
         assert_eq!(offset_of!(Ran, used), 3 * word);
+        assert_eq!(size_of::<Encoded>(), 16);
+        assert_eq!(offset_of!(Encoded, bytes), 8);
     }
 
     #[test]
@@ -98,5 +174,11 @@ mod tests {
         assert_eq!(memory_len(&[]), MemoryLen { refusal: 1, len: 0 });
         assert_eq!(begin(&[], &mut []), 1);
         assert_eq!(run(&mut [], &[], &mut []).refusal, 2);
+        assert_eq!(decode(&[]), Err(3));
+        let short = Encoded {
+            refusal: 6,
+            bytes: 13,
+        };
+        assert_eq!(encode(&Header::default(), &[], &mut []), short);
     }
 }

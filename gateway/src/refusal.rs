@@ -5,6 +5,7 @@ use std::fmt;
 
 /// Why the unit refuses a call or a record.
 #[derive(Debug, Clone, Copy, PartialEq, Eq, Hash, PartialOrd, Ord)]
+#[non_exhaustive]
 pub enum Refusal {
     /// 1: a setting is out of its range.
     Settings,

@@ -4,9 +4,13 @@ use std::fmt;
 
 use crate::answer::{ANSWER_LEN, Answer};
 use crate::ffi;
-use crate::record::RECORD_LEN;
+use crate::record::{RECORD_LEN, Record, Sample, whole_len};
 use crate::refusal::Refusal;
-use crate::settings::{Settings, SettingsError};
+use crate::settings::{SETTINGS_LEN, Settings, SettingsError};
+
+/// Where docs/LAYOUT.md has the tag and the baseline's frames in memory. The settings are in front.
+const TAG_AT: usize = 118;
+const FRAMES_AT: usize = 181;
 
 /// A room: the unit and its memory.
 #[derive(Clone)]
@@ -18,6 +22,7 @@ pub struct Room {
 
 /// What came of a run.
 #[derive(Debug, Clone, PartialEq, Eq)]
+#[non_exhaustive]
 pub struct Run {
     /// One answer a record, in order.
     pub answers: Vec<Answer>,
@@ -37,6 +42,7 @@ impl IntoIterator for Run {
 
 /// What [`Room::run_into`] wrote.
 #[derive(Debug, Clone, Copy, PartialEq, Eq)]
+#[non_exhaustive]
 pub struct Ran {
     /// The answers written, each [`ANSWER_LEN`] bytes, from the start of the space.
     pub answers: usize,
@@ -89,10 +95,103 @@ impl Room {
         Ok(())
     }
 
+    /// A room from memory that [`Room::memory`] gave: it goes on as that one did.
+    ///
+    /// ```
+    /// use volkjarp::{Room, Sample, Settings};
+    ///
+    /// let mut room = Room::new(&Settings::new(50))?;
+    /// room.calibrate(&Sample::default());
+    /// let saved = room.memory().to_vec(); // to a file
+    ///
+    /// let room = Room::from_memory(saved)?;
+    /// assert_eq!(room.calibrated_frames(), 1);
+    /// # Ok::<(), Box<dyn std::error::Error>>(())
+    /// ```
+    ///
+    /// # Errors
+    ///
+    /// [`Refusal::Memory`], if the length, a number or a sum in it is not one that the unit leaves.
+    pub fn from_memory(memory: impl Into<Vec<u8>>) -> Result<Room, Refusal> {
+        let mut room = Room {
+            memory: memory.into(),
+            space: Vec::new(),
+        };
+        // a run without records judges the memory and leaves it
+        room.run_into(&[], &mut [])?;
+        Ok(room)
+    }
+
+    /// The unit's memory: all that the room knows, to be kept over a restart of the gateway.
+    #[must_use]
+    pub fn memory(&self) -> &[u8] {
+        &self.memory
+    }
+
     /// The bytes of memory that the unit has.
     #[must_use]
     pub fn memory_len(&self) -> usize {
         self.memory.len()
+    }
+
+    /// Whether the room was begun with these settings. They stand in its memory, so a room
+    /// [from memory](Room::from_memory) has those that it was saved with.
+    #[must_use]
+    pub fn has_settings(&self, settings: &Settings) -> bool {
+        self.memory[..SETTINGS_LEN] == settings.to_bytes()
+    }
+
+    /// The tag of the samples since the last boundary, if there are any.
+    #[must_use]
+    pub fn tag(&self) -> Option<u8> {
+        Some(self.memory[TAG_AT]).filter(|tag| *tag != 0)
+    }
+
+    /// The frames in the baseline: those calibrated since the last boundary.
+    #[must_use]
+    pub fn calibrated_frames(&self) -> u32 {
+        let frames = [self.memory[FRAMES_AT], self.memory[FRAMES_AT + 1]];
+        u16::from_le_bytes(frames).into()
+    }
+
+    /// Judges one sample.
+    ///
+    /// # Panics
+    ///
+    /// As [`Room::run`].
+    pub fn watch(&mut self, sample: &Sample) -> Answer {
+        self.answer(Record::Watch(&sample.to_bytes()))
+    }
+
+    /// Takes one sample into the baseline.
+    ///
+    /// # Panics
+    ///
+    /// As [`Room::run`].
+    pub fn calibrate(&mut self, sample: &Sample) -> Answer {
+        self.answer(Record::Calibrate(&sample.to_bytes()))
+    }
+
+    /// Forgets all but the settings.
+    ///
+    /// # Panics
+    ///
+    /// As [`Room::run`].
+    pub fn reset(&mut self) {
+        self.answer(Record::Reset);
+    }
+
+    /// Answers one record. Nothing is allocated; but each call checks the whole memory, so many
+    /// records at a time go through [`Room::run`].
+    ///
+    /// # Panics
+    ///
+    /// As [`Room::run`].
+    pub fn answer(&mut self, record: Record<'_>) -> Answer {
+        let mut space = [0; ANSWER_LEN];
+        self.run_into(record.put(&mut [0; RECORD_LEN]), &mut space)
+            .expect("the unit takes the memory it left");
+        answer(&space, 0)
     }
 
     /// Answers every record, up to the first that is unknown or cut short.
@@ -129,7 +228,35 @@ impl Room {
         run
     }
 
-    /// The same into the caller's own space, as bytes. Where the space ends, the run ends before the
+    /// Answers the whole records at the front of a stream that arrives in pieces, and leaves in
+    /// `stream` what is behind them, for the next piece to be added to. Positions count from the
+    /// front. If the last answer is [`Refusal::Record`], that byte is at the front now and no record
+    /// behind it can be told.
+    ///
+    /// ```
+    /// use volkjarp::{Record, Room, Sample, Settings};
+    ///
+    /// let mut room = Room::new(&Settings::new(50))?;
+    /// let mut stream = Vec::new();
+    /// for piece in Record::watch(&Sample::default().to_bytes()).to_bytes().chunks(100) {
+    ///     stream.extend_from_slice(piece);
+    ///     for answer in room.feed(&mut stream) {
+    ///         println!("{answer}");
+    ///     }
+    /// }
+    /// # Ok::<(), volkjarp::SettingsError>(())
+    /// ```
+    ///
+    /// # Panics
+    ///
+    /// As [`Room::run`].
+    pub fn feed(&mut self, stream: &mut Vec<u8>) -> Run {
+        let run = self.run(&stream[..whole_len(stream)]);
+        stream.drain(..run.used);
+        run
+    }
+
+    /// As [`Room::run`], into the caller's own space, as bytes. Where the space ends, the run ends before the
     /// record that has none, and [`Ran::need`] says what that record's answer needs.
     ///
     /// # Errors

@@ -36,6 +36,7 @@ impl Micros {
 /// # Ok::<(), volkjarp::SettingsError>(())
 /// ```
 #[derive(Debug, Clone, Copy, PartialEq, Eq)]
+#[non_exhaustive]
 pub struct Settings {
     /// Frames of a window, for presence and phase: 1 to 8,192.
     pub window: u16,
@@ -328,6 +329,7 @@ fn within(field: Field, value: u64, least: u64, most: u64) -> Result<(), Setting
 
 /// A setting that has a range.
 #[derive(Debug, Clone, Copy, PartialEq, Eq, Hash)]
+#[non_exhaustive]
 pub enum Field {
     /// [`Settings::window`]
     Window,
@@ -341,6 +343,7 @@ pub enum Field {
 
 /// A part of a [`Rhythm`] that has a range.
 #[derive(Debug, Clone, Copy, PartialEq, Eq, Hash)]
+#[non_exhaustive]
 pub enum RhythmField {
     /// [`Rhythm::decim`]
     Decim,
@@ -376,6 +379,7 @@ impl fmt::Display for RhythmField {
 
 /// A setting that left its range.
 #[derive(Debug, Clone, Copy, PartialEq, Eq)]
+#[non_exhaustive]
 pub struct SettingsError {
     /// Which setting.
     pub field: Field,
