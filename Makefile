@@ -3,7 +3,8 @@
 # make compare       our static libraries against the Rust, on many inputs; the gateway's tests
 # make compare-full  the room at full size, beside that
 # make bench         our time as a ratio to the Rust's
-.PHONY: run test compare compare-full oracle gateway bench compare-room compare-room-scale compare-room-memory compare-roomlines
+# make picture       docs/swap.svg: a swap of boards, by the gateway's crate
+.PHONY: run test compare compare-full oracle gateway bench picture compare-room compare-room-scale compare-room-memory compare-roomlines
 
 # each crate X_c has a driver oracle/compare/X
 subjects := $(patsubst crates/%_c,%,$(wildcard crates/*_c))
@@ -58,3 +59,8 @@ gateway: target/staticlib/libroom.a
 # its last line is the ratio
 bench: target/staticlib/libroom.a
 	@$(room) bench_room
+
+# the crate's build script has the library made
+picture:
+	cd gateway && cargo run --quiet --offline --example swap > ../target/swap.svg
+	mv target/swap.svg docs/swap.svg
