@@ -62,5 +62,6 @@ bench: target/staticlib/libroom.a
 
 # the crate's build script has the library made
 picture:
+	@mkdir -p target
 	cd gateway && cargo run --quiet --offline --example swap > ../target/swap.svg
 	mv target/swap.svg docs/swap.svg
