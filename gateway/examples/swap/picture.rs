@@ -248,7 +248,7 @@ impl Picture {
                 x,
                 UNIT_AT + 50.0,
                 UNIT,
-                "says nothing until it has watched through the new board",
+                "warming until it has watched a full window through the new board",
             ),
             (
                 later,
