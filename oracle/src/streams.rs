@@ -15,6 +15,10 @@ const SECOND: u64 = 1_000_000;
 /// Microseconds between two frames.
 const SPACING: u64 = SECOND / 50;
 
+/// Frames of a breath and of a heartbeat.
+const BREATH: u64 = 150;
+const BEAT: u64 = 40;
+
 /// The angles of a turn.
 const TURN: u64 = 256;
 const QUARTER: u64 = TURN / 4;
@@ -25,6 +29,8 @@ enum Scene {
     Still,
     /// A rhythm with a period of so many frames.
     Rhythm(u64),
+    /// Someone who breathes 20 times a minute, and whose heart beats 75 times.
+    Sitting,
     Walk,
     Burst,
     /// Every I/Q byte the same.
@@ -173,7 +179,10 @@ impl<'a> Link<'a> {
         match scene {
             Scene::Still => self.rest[k] + i8::from(random.one_in(32)),
             Scene::Rhythm(period) => {
-                let height = i32::from(wave(self.sent % period * TURN / period));
+                self.rest[k] + (i32::from(self.sway[k]) * self.height(period) / 64) as i8
+            }
+            Scene::Sitting => {
+                let height = 5 * self.height(BREATH) + 2 * self.height(BEAT);
                 self.rest[k] + (i32::from(self.sway[k]) * height / 64) as i8
             }
             Scene::Walk => self.rest[k] + random.below(16) as i8 - 8,
@@ -181,6 +190,11 @@ impl<'a> Link<'a> {
             Scene::Flat(value) => value,
             Scene::Single(at) => i8::from(k == at) * 100,
         }
+    }
+
+    /// How far a rhythm with a period of so many frames is from its middle.
+    fn height(&self, period: u64) -> i32 {
+        i32::from(wave(self.sent % period * TURN / period))
     }
 
     /// The last record once more with a header that is refused, of this or another tag.

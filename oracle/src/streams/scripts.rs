@@ -218,7 +218,8 @@ fn clocks(tag: u8) -> Vec<u8> {
     room.link.records
 }
 
-/// A stream of a few hundred records that shows each kind of line: `make run` prints its lines.
+/// A stream of some nine hundred records that shows each kind of line: `make run` prints its lines. Someone
+/// comes in, sits and breathes; then boards are swapped, and someone falls.
 pub fn sample() -> Vec<u8> {
     let random = &mut Random::new(2);
     let mut room = Followed::new(random, TAG_HTLTF_20MHZ);
@@ -227,6 +228,7 @@ pub fn sample() -> Vec<u8> {
     room.reach(State::Idle);
     room.until(Scene::Walk, SPACING, |_, w| is_present(w));
     room.frames(WATCH, Scene::Walk, 10);
+    room.frames(WATCH, Scene::Sitting, 700);
     room.spoil(0, 2);
     room.spoil(1, 9);
     room.swap();
@@ -244,7 +246,7 @@ pub fn recorded() -> Vec<u8> {
     let random = &mut Random::new(1);
     let mut room = Followed::new(random, TAG_HTLTF_20MHZ);
     room.frames(CALIBRATE, Scene::Still, 10);
-    room.frames(WATCH, Scene::Rhythm(150), 700);
+    room.frames(WATCH, Scene::Sitting, 700);
     room.refusals();
     room.swap();
     room.frames(WATCH, Scene::Rhythm(40), 270);
