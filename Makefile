@@ -1,39 +1,68 @@
-# make run           the lines of a sample stream
-# make test          the gate: proofs, must-fail edits, recorded cases, comparisons
-# make compare       our static libraries against the Rust, on many inputs; the gateway's tests
-# make compare-full  the room at full size, beside that
-# make bench         our time as a ratio to the Rust's
-# make picture       docs/swap.svg: a swap of boards, by the gateway's crate
-.PHONY: run test compare compare-full oracle gateway bench picture compare-room compare-room-scale compare-room-memory compare-roomlines
+# make help          this list
+# make run           the lines of a sample stream               5 minutes on a new clone (it is proved first), then 2 seconds
+# make test          the gate: proofs, edits that must fail, recorded cases, tests, comparisons              1 to 2 hours
+# make library       target/staticlib/libvolkjarp.a, all calls for C and Rust                          5 to 10 minutes, 2 seconds where nothing changed
+# make header        the library from C: layouts, every call, the example                              the library, and 5 seconds
+# make gateway       the tests of the Rust crate                                                       the library, and 30 seconds
+# make dist          dist/: library, header, the crate's sources, pkg-config file, checksums           the library, and a second
+# make compare       our static libraries against the Rust, on many inputs                             20 minutes
+# make compare-full  the room at full size, beside that                                                30 minutes
+# make picture       docs/swap.svg: a swap of boards, drawn by the Rust crate                         the library, and 10 seconds
+# make bench         our time as a ratio to the Rust's                                                 a minute
+.DEFAULT_GOAL := help
+.PHONY: help run test library header gateway dist compare compare-full oracle bench compare-room compare-room-scale compare-room-memory compare-roomlines picture need-rt
 
-# each crate X_c has a driver oracle/compare/X
+# each crate X_c has calls for C, and a driver oracle/compare/X
 subjects := $(patsubst crates/%_c,%,$(wildcard crates/*_c))
+
+# the libraries that rt writes; the room exports its calls itself
+parts := $(patsubst %,target/staticlib/lib%.a,room $(subjects:%=%_c))
 
 # the room's drivers, beside each other in oracle/compare/room
 room := cd oracle && cargo run --quiet --offline --release -p compare_room --bin
 
-run:
+help:
+	@sed -n 's/^# \(make .*\)/\1/p' Makefile
+
+need-rt:
+	@command -v rt > /dev/null || { echo 'The Rattle toolchain is missing: there is no command rt.' >&2; exit 1; }
+
+run: need-rt
 	rt check roomlines
 	target/bin/roomlines < samples/room.stream
 
-test:
+test: need-rt
 	bash .ci/run
 
-compare: oracle $(subjects:%=compare-%) compare-room compare-room-memory compare-roomlines gateway
+# proved and written again where a source is newer
+$(parts): target/staticlib/lib%.a: need-rt FORCE
+	@[ -e $@ ] && [ -z "$$(find crates crates.txt -newer $@ -print -quit)" ] || rt staticlib $*
+FORCE:
+
+target/staticlib/libvolkjarp.a: $(parts)
+	@bash tools/library $@ $(parts)
+
+library: target/staticlib/libvolkjarp.a
+
+header: target/staticlib/libvolkjarp.a
+	@bash tests/run
+
+gateway: target/staticlib/libvolkjarp.a
+	cd gateway && cargo test --quiet --offline
+
+dist: target/staticlib/libvolkjarp.a
+	@bash tools/dist
+	@bash tests/dist
+
+compare: oracle $(subjects:%=compare-%) compare-room compare-room-memory compare-roomlines
 
 compare-full: compare compare-room-scale
 
 oracle:
 	cd oracle && cargo test --quiet --offline --release
 
-compare-%:
-	rt staticlib $*_c
+$(subjects:%=compare-%): compare-%: target/staticlib/lib%_c.a
 	cd oracle && cargo run --quiet --offline --release -p compare_$*
-
-# the room exports its calls itself
-target/staticlib/libroom.a: FORCE
-	rt staticlib room
-FORCE:
 
 # [seed] [calls]
 compare-room: target/staticlib/libroom.a
@@ -48,13 +77,9 @@ compare-room-scale: target/staticlib/libroom.a
 	$(room) compare_room_memory -- 2 10000000
 
 # the program against the Rust, line by line: at least 500,000 records
-compare-roomlines:
+compare-roomlines: need-rt
 	rt check roomlines
 	cd oracle && cargo run --quiet --offline --release --bin compare_roomlines
-
-# the Rust crate and the C header over the room
-gateway: target/staticlib/libroom.a
-	cd gateway && cargo test --quiet --offline
 
 # its last line is the ratio
 bench: target/staticlib/libroom.a
