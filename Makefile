@@ -1,14 +1,14 @@
 # make help          this list
-# make run           the lines of a sample stream               5 minutes on a new clone (it is proved first), then 2 seconds
-# make test          the gate: proofs, edits that must fail, recorded cases, tests, comparisons              1 to 2 hours
-# make library       target/staticlib/libvolkjarp.a, all calls for C and Rust                          5 to 10 minutes, 2 seconds where nothing changed
-# make header        the library from C: layouts, every call, the example                              the library, and 5 seconds
-# make gateway       the tests of the Rust crate                                                       the library, and 30 seconds
-# make dist          dist/: library, header, the crate's sources, pkg-config file, checksums           the library, and a second
-# make compare       our static libraries against the Rust, on many inputs                             20 minutes
-# make compare-full  the room at full size, beside that                                                30 minutes
-# make picture       docs/swap.svg: a swap of boards, drawn by the Rust crate                         the library, and 10 seconds
-# make bench         our time as a ratio to the Rust's                                                 a minute
+# make run           the lines of a sample stream: 5 minutes on a new clone, since they are proved first, then 2 seconds
+# make test          the gate: proofs, edits that must fail, recorded cases, tests, comparisons: under an hour
+# make library       target/staticlib/libvolkjarp.a, all calls for C and Rust: 8 minutes on a new clone, then a second
+# make header        the library from C: layouts, every call, the example: 5 seconds beside the library
+# make gateway       the tests of the Rust crate: 10 seconds beside the library
+# make dist          dist/, what a gateway needs: library, header, the crate's sources, checksums: a second beside the library
+# make compare       our libraries against the Rust, on many inputs: 5 minutes beside them
+# make compare-full  the room at full size, beside that: 15 minutes
+# make picture       docs/swap.svg, a swap of boards drawn by the Rust crate: 10 seconds beside the library
+# make bench         our time as a ratio to the Rust's: a minute
 .DEFAULT_GOAL := help
 .PHONY: help run test library header gateway dist compare compare-full oracle bench compare-room compare-room-scale compare-room-memory compare-roomlines picture need-rt
 
@@ -25,11 +25,10 @@ help:
 	@sed -n 's/^# \(make .*\)/\1/p' Makefile
 
 need-rt:
-	@command -v rt > /dev/null || { echo 'The Rattle toolchain is missing: there is no command rt.' >&2; exit 1; }
+	@command -v rt > /dev/null || { echo 'The Rattle toolchain is missing: no command rt is found.' >&2; exit 1; }
 
 run: need-rt
-	rt check roomlines
-	target/bin/roomlines < samples/room.stream
+	@bash tools/run
 
 test: need-rt
 	bash .ci/run

@@ -1,7 +1,7 @@
 /* Room sensing from Wi-Fi channel samples. Link with libvolkjarp.a (x86-64 Linux).
  *
  * The room unit (room_..) is what a gateway needs: records in, answers out, all state in memory that
- * the caller lends. What it is made of can be called by itself, from `The sample' on.
+ * the caller lends. What it is made of can be called by itself.
  *
  * - A slice is a pointer and a length. The pointer is not null even where the length is 0. Slices of
  *   one call do not overlap.
@@ -90,11 +90,54 @@ struct volkjarp_fall_config {
 struct volkjarp_vitals_config vitals_breathing(uint32_t frame_hz);
 struct volkjarp_vitals_config vitals_heart(uint32_t frame_hz);
 
+/* ---- The sample ------------------------------------------------------------------------------- */
+
+/* Where its fields stand. Byte 12 is the number of I/Q bytes: at most 128, in a record always 128. */
+#define VOLKJARP_SAMPLE_VERSION 1
+#define VOLKJARP_IQ_LEN 128
+#define VOLKJARP_SAMPLE_LEN 141
+#define VOLKJARP_AT_SAMPLE_VERSION 0
+#define VOLKJARP_AT_SAMPLE_TAG 1
+#define VOLKJARP_AT_SAMPLE_RSSI 2
+#define VOLKJARP_AT_SAMPLE_CHANNEL 3
+#define VOLKJARP_AT_SAMPLE_TIME 4 /* 8 */
+#define VOLKJARP_AT_SAMPLE_IQ_LEN 12
+#define VOLKJARP_AT_SAMPLE_IQ 13  /* 128: 64 pairs of signed bytes, imaginary before real */
+
+/* The layout tag: which of the 64 pairs are subcarriers (first to last), and how many. */
+#define VOLKJARP_TAG_LLTF_20MHZ 1      /* 1 to 26, 38 to 63: 52 */
+#define VOLKJARP_TAG_HTLTF_20MHZ 2     /* 1 to 28, 36 to 63: 56 */
+#define VOLKJARP_TAG_C6_HT20_NATURAL 3 /* 4 to 31, 33 to 60: 56 */
+#define VOLKJARP_TAG_DENSE_64 4        /* 0 to 63: 64 */
+
+/* The refusal (0, 3 or 6), and the bytes written; 6: those needed. */
+struct volkjarp_encoded {
+    uint64_t refusal;
+    uint64_t bytes;
+};
+
+/* Decodes a sample: 0 or 3. If 0, its I/Q are the `iq_len` bytes from byte 13 on; if 3, the numbers are
+ * as they were. Any tag decodes. */
+uint64_t csi_decode(const uint8_t *bytes, size_t bytes_len, uint64_t *at, int8_t *rssi,
+                    uint8_t *channel, uint8_t *tag, uint8_t *iq_len);
+
+/* Encodes a sample of at most 128 I/Q bytes to the front of `out`. */
+struct volkjarp_encoded csi_encode(uint64_t at, int8_t rssi, uint8_t channel, uint8_t tag,
+                                   const uint8_t *iq, size_t iq_len, uint8_t *out, size_t out_len);
+
+/* A sample of the radio. */
+struct volkjarp_sample {
+    uint8_t tag; /* VOLKJARP_TAG_.. */
+    int8_t rssi;
+    uint8_t channel;
+    uint64_t at; /* when it was taken */
+    int8_t iq[VOLKJARP_IQ_LEN];
+};
+
 /* ---- The room unit ---------------------------------------------------------------------------- */
 
 /* Lengths in bytes. */
 #define VOLKJARP_SETTINGS_LEN 118
-#define VOLKJARP_SAMPLE_LEN 141
 #define VOLKJARP_RECORD_LEN 142
 #define VOLKJARP_RESET_LEN 1
 #define VOLKJARP_ANSWER_LEN 24
@@ -129,32 +172,32 @@ struct volkjarp_ran room_run(uint8_t *memory, size_t memory_len, const uint8_t *
                              size_t records_len, uint8_t *answers, size_t answers_len);
 
 /* Settings: where each number stands, and its bytes. */
-#define VOLKJARP_AT_WINDOW 0                 /* 2: frames of a window, 1 to 8,192 */
-#define VOLKJARP_AT_BLOCKS 2                 /* 2: blocks of breathing and heart, 4 to 512 */
-#define VOLKJARP_AT_PRESENCE_ON_PERMILLE 4   /* 2 */
-#define VOLKJARP_AT_PRESENCE_OFF_PERMILLE 6  /* 2 */
-#define VOLKJARP_AT_PRESENCE_HOLD 8          /* 8 */
-#define VOLKJARP_AT_PHASE_ON_PPM 16          /* 4 */
-#define VOLKJARP_AT_PHASE_OFF_PPM 20         /* 4 */
-#define VOLKJARP_AT_PHASE_HOLD 24            /* 8 */
-#define VOLKJARP_AT_BREATHING 32             /* 20: as below */
-#define VOLKJARP_AT_HEART 52                 /* 20: as below */
-#define VOLKJARP_AT_FALL_ACTIVE_PERMILLE 72  /* 2 */
-#define VOLKJARP_AT_FALL_BURST_PERMILLE 74   /* 2 */
-#define VOLKJARP_AT_FALL_STILL_PERMILLE 76   /* 2 */
-#define VOLKJARP_AT_FALL_MIN_ACTIVE 78       /* 8 */
-#define VOLKJARP_AT_FALL_QUIET_GRACE 86      /* 8 */
-#define VOLKJARP_AT_FALL_SETTLE 94           /* 8 */
-#define VOLKJARP_AT_FALL_STILL_FOR 102       /* 8 */
-#define VOLKJARP_AT_FALL_REFRACTORY 110      /* 8 */
+#define VOLKJARP_AT_WINDOW 0                /* 2: frames of a window, 1 to 8,192 */
+#define VOLKJARP_AT_BLOCKS 2                /* 2: blocks of breathing and heart, 4 to 512 */
+#define VOLKJARP_AT_PRESENCE_ON_PERMILLE 4  /* 2 */
+#define VOLKJARP_AT_PRESENCE_OFF_PERMILLE 6 /* 2 */
+#define VOLKJARP_AT_PRESENCE_HOLD 8         /* 8 */
+#define VOLKJARP_AT_PHASE_ON_PPM 16         /* 4 */
+#define VOLKJARP_AT_PHASE_OFF_PPM 20        /* 4 */
+#define VOLKJARP_AT_PHASE_HOLD 24           /* 8 */
+#define VOLKJARP_AT_BREATHING 32            /* 20: as below */
+#define VOLKJARP_AT_HEART 52                /* 20: as below */
+#define VOLKJARP_AT_FALL_ACTIVE_PERMILLE 72 /* 2 */
+#define VOLKJARP_AT_FALL_BURST_PERMILLE 74  /* 2 */
+#define VOLKJARP_AT_FALL_STILL_PERMILLE 76  /* 2 */
+#define VOLKJARP_AT_FALL_MIN_ACTIVE 78      /* 8 */
+#define VOLKJARP_AT_FALL_QUIET_GRACE 86     /* 8 */
+#define VOLKJARP_AT_FALL_SETTLE 94          /* 8 */
+#define VOLKJARP_AT_FALL_STILL_FOR 102      /* 8 */
+#define VOLKJARP_AT_FALL_REFRACTORY 110     /* 8 */
 /* Breathing and heart, from their first byte on. */
-#define VOLKJARP_AT_VITALS_DECIM 0           /* 2 */
-#define VOLKJARP_AT_VITALS_RATE_HZ 2         /* 4 */
-#define VOLKJARP_AT_VITALS_LO_MHZ 6          /* 4 */
-#define VOLKJARP_AT_VITALS_HI_MHZ 10         /* 4 */
-#define VOLKJARP_AT_VITALS_UPDATE_EVERY 14   /* 2 */
+#define VOLKJARP_AT_VITALS_DECIM 0            /* 2 */
+#define VOLKJARP_AT_VITALS_RATE_HZ 2          /* 4 */
+#define VOLKJARP_AT_VITALS_LO_MHZ 6           /* 4 */
+#define VOLKJARP_AT_VITALS_HI_MHZ 10          /* 4 */
+#define VOLKJARP_AT_VITALS_UPDATE_EVERY 14    /* 2 */
 #define VOLKJARP_AT_VITALS_ACCEPT_PERMILLE 16 /* 2 */
-#define VOLKJARP_AT_VITALS_HIGHPASS 18       /* 2 */
+#define VOLKJARP_AT_VITALS_HIGHPASS 18        /* 2 */
 
 /* A record: its kind, then a sample unless it is a reset. */
 #define VOLKJARP_WATCH 1
@@ -163,23 +206,6 @@ struct volkjarp_ran room_run(uint8_t *memory, size_t memory_len, const uint8_t *
 #define VOLKJARP_AT_RECORD_KIND 0
 #define VOLKJARP_AT_RECORD_SAMPLE 1
 
-/* A sample. Byte 12 is the number of I/Q bytes, in a record always 128. */
-#define VOLKJARP_SAMPLE_VERSION 1
-#define VOLKJARP_IQ_LEN 128
-#define VOLKJARP_AT_SAMPLE_VERSION 0
-#define VOLKJARP_AT_SAMPLE_TAG 1
-#define VOLKJARP_AT_SAMPLE_RSSI 2
-#define VOLKJARP_AT_SAMPLE_CHANNEL 3
-#define VOLKJARP_AT_SAMPLE_TIME 4 /* 8 */
-#define VOLKJARP_AT_SAMPLE_IQ_LEN 12
-#define VOLKJARP_AT_SAMPLE_IQ 13 /* 128: 64 pairs of signed bytes, imaginary before real */
-
-/* The layout tag: which of the 64 pairs are subcarriers (first to last), and how many. */
-#define VOLKJARP_TAG_LLTF_20MHZ 1     /* 1 to 26, 38 to 63: 52 */
-#define VOLKJARP_TAG_HTLTF_20MHZ 2    /* 1 to 28, 36 to 63: 56 */
-#define VOLKJARP_TAG_C6_HT20_NATURAL 3 /* 4 to 31, 33 to 60: 56 */
-#define VOLKJARP_TAG_DENSE_64 4       /* 0 to 63: 64 */
-
 /* An answer: its kind, then what the kind says, then zeros. */
 #define VOLKJARP_ANSWER_REFUSED 0
 #define VOLKJARP_ANSWER_WATCHED 1
@@ -187,17 +213,17 @@ struct volkjarp_ran room_run(uint8_t *memory, size_t memory_len, const uint8_t *
 #define VOLKJARP_ANSWER_RESET 3
 #define VOLKJARP_AT_ANSWER_KIND 0
 #define VOLKJARP_AT_REFUSED_NUMBER 1
-#define VOLKJARP_AT_REFUSED_POSITION 2      /* 8: of the record in its run */
-#define VOLKJARP_AT_CALIBRATED_FRAMES 1     /* 4 */
-#define VOLKJARP_AT_CALIBRATED_MEAN 5       /* 4 */
+#define VOLKJARP_AT_REFUSED_POSITION 2   /* 8: of the record in its run */
+#define VOLKJARP_AT_CALIBRATED_FRAMES 1  /* 4 */
+#define VOLKJARP_AT_CALIBRATED_MEAN 5    /* 4 */
 #define VOLKJARP_AT_WATCHED_VERDICT 1
 #define VOLKJARP_AT_WATCHED_MOTION 2
 #define VOLKJARP_AT_WATCHED_FALL 3
-#define VOLKJARP_AT_WATCHED_PERMILLE 4      /* 2 */
-#define VOLKJARP_AT_WATCHED_DISTANCE 6      /* 2 */
-#define VOLKJARP_AT_WATCHED_PPM 8           /* 4 */
-#define VOLKJARP_AT_WATCHED_BREATHING 12    /* 1: VOLKJARP_NOT_DUE ..; then 2 */
-#define VOLKJARP_AT_WATCHED_HEART 15        /* the same */
+#define VOLKJARP_AT_WATCHED_PERMILLE 4   /* 2 */
+#define VOLKJARP_AT_WATCHED_DISTANCE 6   /* 2 */
+#define VOLKJARP_AT_WATCHED_PPM 8        /* 4 */
+#define VOLKJARP_AT_WATCHED_BREATHING 12 /* 1: VOLKJARP_NOT_DUE ..; then 2 */
+#define VOLKJARP_AT_WATCHED_HEART 15     /* the same */
 
 /* Verdicts. */
 #define VOLKJARP_WARMING 0
@@ -216,15 +242,6 @@ struct volkjarp_settings {
     struct volkjarp_phase_config phase;
     struct volkjarp_vitals_config breathing, heart;
     struct volkjarp_fall_config fall;
-};
-
-/* A sample of the radio. */
-struct volkjarp_sample {
-    uint8_t tag; /* VOLKJARP_TAG_.. */
-    int8_t rssi;
-    uint8_t channel;
-    uint64_t at; /* when it was taken */
-    int8_t iq[VOLKJARP_IQ_LEN];
 };
 
 /* A rate: whether it is due and accepted, and ten times the rate a minute, 0 unless accepted. */
@@ -376,21 +393,14 @@ static inline struct volkjarp_settings volkjarp_settings_from(const uint8_t *byt
     return s;
 }
 
-/* The record that watches (VOLKJARP_WATCH) a sample or calibrates (VOLKJARP_CALIBRATE) with it. */
+/* The record that watches (VOLKJARP_WATCH) a sample or calibrates (VOLKJARP_CALIBRATE) with it. Where
+ * the sensor sends the bytes of a sample, they follow the kind as they are. */
 static inline void volkjarp_record(uint8_t kind, const struct volkjarp_sample *s,
                                    uint8_t bytes[VOLKJARP_RECORD_LEN])
 {
-    uint8_t *sample = bytes + VOLKJARP_AT_RECORD_SAMPLE;
-    size_t k;
     bytes[VOLKJARP_AT_RECORD_KIND] = kind;
-    sample[VOLKJARP_AT_SAMPLE_VERSION] = VOLKJARP_SAMPLE_VERSION;
-    sample[VOLKJARP_AT_SAMPLE_TAG] = s->tag;
-    sample[VOLKJARP_AT_SAMPLE_RSSI] = (uint8_t)s->rssi;
-    sample[VOLKJARP_AT_SAMPLE_CHANNEL] = s->channel;
-    volkjarp_put(sample, VOLKJARP_AT_SAMPLE_TIME, 8, s->at);
-    sample[VOLKJARP_AT_SAMPLE_IQ_LEN] = VOLKJARP_IQ_LEN;
-    for (k = 0; k < VOLKJARP_IQ_LEN; k++)
-        sample[VOLKJARP_AT_SAMPLE_IQ + k] = (uint8_t)s->iq[k];
+    csi_encode(s->at, s->rssi, s->channel, s->tag, (const uint8_t *)s->iq, VOLKJARP_IQ_LEN,
+               bytes + VOLKJARP_AT_RECORD_SAMPLE, VOLKJARP_SAMPLE_LEN);
 }
 
 static inline struct volkjarp_rate volkjarp_get_rate(const uint8_t *bytes)
@@ -426,27 +436,10 @@ static inline struct volkjarp_answer volkjarp_answer_from(const uint8_t *bytes)
     return a;
 }
 
-/* ---- The sample ------------------------------------------------------------------------------- */
+/* ---- Amplitudes ------------------------------------------------------------------------------- */
 
 /* Subcarriers at most. */
 #define VOLKJARP_COLUMNS 64
-
-/* The refusal (0, 3 or 6), and the bytes written; 6: those needed. */
-struct volkjarp_encoded {
-    uint64_t refusal;
-    uint64_t bytes;
-};
-
-/* Decodes a sample: 0 or 3. If 0, its I/Q are the `iq_len` bytes from byte 13 on; if 3, the numbers are
- * as they were. Any tag decodes. */
-uint64_t csi_decode(const uint8_t *bytes, size_t bytes_len, uint64_t *at, int8_t *rssi,
-                    uint8_t *channel, uint8_t *tag, uint8_t *iq_len);
-
-/* Encodes a sample of at most 128 I/Q bytes to the front of `out`. */
-struct volkjarp_encoded csi_encode(uint64_t at, int8_t rssi, uint8_t channel, uint8_t tag,
-                                   const uint8_t *iq, size_t iq_len, uint8_t *out, size_t out_len);
-
-/* ---- Amplitudes ------------------------------------------------------------------------------- */
 
 /* The amplitudes of the subcarriers in use, the first `count`; their mean and variance. */
 struct volkjarp_features {
@@ -468,7 +461,7 @@ struct volkjarp_measured csi_features(const uint8_t *iq, size_t iq_len, uint8_t 
 /* Of a sample's bytes: 0, 3, 4 or 5. */
 struct volkjarp_measured csi_sample_features(const uint8_t *bytes, size_t bytes_len);
 
-/* Scaled to a mean of 1,024: 0 or 7. */
+/* Scaled to a mean of about 1,024: 0 or 7. */
 struct volkjarp_measured csi_normalised(struct volkjarp_features features);
 
 /* Of I/Q bytes and a tag, and scaled, as the room takes them: 0, 4 or 5. */

@@ -36,7 +36,7 @@ static void sample(void)
     CHECK(tag == VOLKJARP_TAG_DENSE_64 && iq_len == VOLKJARP_IQ_LEN);
     CHECK(memcmp(bytes + VOLKJARP_AT_SAMPLE_IQ, IQ, sizeof IQ) == 0);
 
-    /* a record holds the same bytes */
+    /* a record holds the same bytes, where the header says */
     memset(&s, 0, sizeof s);
     s.tag = VOLKJARP_TAG_DENSE_64;
     s.rssi = -40;
@@ -46,6 +46,11 @@ static void sample(void)
     volkjarp_record(VOLKJARP_WATCH, &s, record);
     CHECK(record[VOLKJARP_AT_RECORD_KIND] == VOLKJARP_WATCH);
     CHECK(memcmp(record + VOLKJARP_AT_RECORD_SAMPLE, bytes, sizeof bytes) == 0);
+    CHECK(bytes[VOLKJARP_AT_SAMPLE_VERSION] == VOLKJARP_SAMPLE_VERSION);
+    CHECK(bytes[VOLKJARP_AT_SAMPLE_TAG] == VOLKJARP_TAG_DENSE_64);
+    CHECK((int8_t)bytes[VOLKJARP_AT_SAMPLE_RSSI] == -40 && bytes[VOLKJARP_AT_SAMPLE_CHANNEL] == 11);
+    CHECK(volkjarp_get(bytes, VOLKJARP_AT_SAMPLE_TIME, 8) == 77);
+    CHECK(bytes[VOLKJARP_AT_SAMPLE_IQ_LEN] == VOLKJARP_IQ_LEN);
 }
 
 static void amplitudes(void)
