@@ -5,8 +5,8 @@
 # make header        the library from C: layouts, every call, the example: 5 seconds beside the library
 # make gateway       the tests of the Rust crate: 10 seconds beside the library
 # make dist          dist/, what a gateway needs: library, header, the crate's sources, checksums: a second beside the library
-# make compare       our libraries against the Rust, on many inputs: 5 minutes beside them
-# make compare-full  the room at full size, beside that: 15 minutes
+# make compare       our libraries against the Rust, on many inputs: 3 minutes beside them
+# make compare-full  the room at full size, beside that: 10 minutes
 # make picture       docs/swap.svg, a swap of boards drawn by the Rust crate: 10 seconds beside the library
 # make bench         our time as a ratio to the Rust's: a minute
 .DEFAULT_GOAL := help
