@@ -9,15 +9,11 @@ use std::path::{Path, PathBuf};
 use std::process::{Command, exit};
 use std::time::SystemTime;
 
-/// The archives, each with the command that makes it in the repository.
-const ARCHIVES: [(&str, &[&str]); 2] = [
-    ("room", &["rt", "staticlib", "room"]),
-    ("csi_stream_c", &["rt", "staticlib", "csi_stream_c"]),
-];
+const ARCHIVE: &str = "libvolkjarp.a";
 
 const VARIABLE: &str = "VOLKJARP_STATICLIB_DIR";
 
-/// What the archives are made from, in the repository.
+/// What the archive is made from, in the repository.
 const SOURCES: [&str; 2] = ["crates", "crates.txt"];
 
 fn main() {
@@ -36,29 +32,19 @@ fn main() {
         None => of_the_repository(&root),
     };
     println!("cargo:rustc-link-search=native={}", folder.display());
-    for (name, _) in ARCHIVES {
-        // Not bundled: the crate itself is built without the archive.
-        println!("cargo:rustc-link-lib=static:-bundle={name}");
-        println!("cargo:rerun-if-changed={}", file(&folder, name).display());
-    }
-    // for the test of the C header
-    let first = file(&folder, ARCHIVES[0].0);
-    println!("cargo:rustc-env=VOLKJARP_LIBROOM={}", first.display());
-}
-
-fn file(folder: &Path, name: &str) -> PathBuf {
-    folder.join(format!("lib{name}.a"))
+    // Not bundled: the crate itself is built without the archive.
+    println!("cargo:rustc-link-lib=static:-bundle=volkjarp");
+    let archive = folder.join(ARCHIVE);
+    println!("cargo:rerun-if-changed={}", archive.display());
 }
 
 fn named(folder: &OsStr) -> PathBuf {
     let folder = PathBuf::from(folder);
-    for (name, _) in ARCHIVES {
-        if !file(&folder, name).exists() {
-            let folder = folder.display();
-            fail(&format!(
-                "{VARIABLE} names {folder}, which has no lib{name}.a"
-            ));
-        }
+    if !folder.join(ARCHIVE).exists() {
+        let folder = folder.display();
+        fail(&format!(
+            "{VARIABLE} names {folder}, which has no {ARCHIVE}"
+        ));
     }
     folder.canonicalize().unwrap()
 }
@@ -72,12 +58,18 @@ fn of_the_repository(root: &Path) -> PathBuf {
         .filter_map(|source| newest(&root.join(source)));
     let changed = changed.max().unwrap_or(SystemTime::UNIX_EPOCH);
     let folder = root.join("target/staticlib");
-    for (name, command) in ARCHIVES {
-        let made = fs::metadata(file(&folder, name)).and_then(|archive| archive.modified());
-        if made.is_ok_and(|made| made >= changed) {
-            continue;
-        }
-        make(root, name, command);
+    let made = fs::metadata(folder.join(ARCHIVE)).and_then(|archive| archive.modified());
+    if made.is_ok_and(|made| made >= changed) {
+        return folder.canonicalize().unwrap();
+    }
+    if Command::new("rt").arg("help").output().is_ok() {
+        make(root);
+    } else {
+        warn(&format!(
+            "{ARCHIVE} is missing or older than crates/, and rt, which proves and makes it, is not \
+             found. What is linked needs the Rattle toolchain, or {VARIABLE} set to a folder that \
+             has {ARCHIVE}."
+        ));
     }
     folder.canonicalize().unwrap_or(folder)
 }
@@ -92,25 +84,17 @@ fn newest(path: &Path) -> Option<SystemTime> {
         .max()
 }
 
-fn make(root: &Path, name: &str, command: &[&str]) {
-    let words = command.join(" ");
-    let mut started = Command::new(command[0]);
-    match started.args(&command[1..]).current_dir(root).spawn() {
-        Err(error) => warn(&format!(
-            "lib{name}.a is missing or older than crates/, and {}, which makes it, cannot be run \
-             ({error}). What is linked needs the Rattle toolchain, or {VARIABLE} set to a folder \
-             that has lib{name}.a.",
-            command[0]
-        )),
-        Ok(mut child) => {
-            warn(&format!(
-                "`{words}` makes lib{name}.a, with its proofs: minutes on a new clone"
-            ));
-            match child.wait() {
-                Ok(status) if status.success() => {}
-                ended => fail(&format!("`{words}` failed ({ended:?})")),
-            }
-        }
+fn make(root: &Path) {
+    warn(&format!(
+        "`make library` makes {ARCHIVE}, with its proofs: minutes on a new clone"
+    ));
+    match Command::new("make")
+        .arg("library")
+        .current_dir(root)
+        .status()
+    {
+        Ok(status) if status.success() => {}
+        ended => fail(&format!("`make library` failed ({ended:?})")),
     }
 }
 
