@@ -1,1 +1,1 @@
-pub mod Running
+pub mod Promises

@@ -1,5 +1,5 @@
 -- The state of the fall machine as numbers (fall.rs, `Phase`), for the memory of the room unit.
-use Prim.Native.Nat.{ℕ, _<_, _≤_, _^_}
+use Prim.Native.Nat.{ℕ}
 use mathlib.Core.Bool.{Bool, cond, _&&_}
 use lib.Dec.{eqb}
 use Rattle.fall.specs.declared.Phase.{Phase}
@@ -34,10 +34,3 @@ sameWords v w = eqb (v .tag) (w .tag) && (eqb (v .peak) (w .peak) && (eqb (v .a)
 -- legal words are those of a state
 unfoldable pub legal : Words → Bool
 legal w = sameWords (wordsOf (phaseOf w)) w
-
--- words that their fields hold: one byte, two, eight and eight
-pub record Held (w : Words) : Type 0 where
-  pub tag : w .tag ≤ 5
-  pub peak : w .peak < 2 ^ 16
-  pub a : w .a < 2 ^ 64
-  pub b : w .b < 2 ^ 64

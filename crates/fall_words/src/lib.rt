@@ -4,6 +4,8 @@ ghost use Rattle.fall_words.specs.Stored.{words, phaseOf, wordsOf, legal
 use fall::Phase;
 use fall::Quiet;
 
+pub mod steps;
+
 // Tags.
 pub const IDLE: u8 = 0;
 
@@ -53,7 +55,8 @@ pub fn words_of(phase: Phase) -> Words
     }
 }
 
-pub fn phase_of(words: Words) -> Phase
+// Any other tag stands for Idle.
+fn stands_for(words: Words) -> Phase
     ensures { λ r. ⌜ r ≡ phaseOf words ⌝ }
 {
     let Words { tag, peak, a, b } = words;
@@ -81,7 +84,7 @@ pub fn phase_of(words: Words) -> Phase
 pub fn is_legal(words: Words) -> bool
     ensures { λ r. ⌜ r ≡ legal words ⌝ }
 {
-    let again = words_of(phase_of(words));
+    let again = words_of(stands_for(words));
     if again.tag != words.tag {
         return false;
     }

@@ -52,7 +52,7 @@ pub(crate) fn step_fall(
     }
     let machine = FallDetector {
         config,
-        phase: fall_words::phase_of(words),
+        phase: fall_words::steps::phase_of(words),
     };
     let p = machine.push(wander as u16, time);
     let after = p.detector;

@@ -8,15 +8,15 @@ use Rattle.fall_words.specs.Stored.{legal, wordsOf, phaseOf}
 use Rattle.fall_words.proofs.is_legal.Statement.{statement}
 use Rattle.fall_words.proofs.is_legal.Tie as tie
 
-phase-of-requires : tie.Need-phase-of-requires
-phase-of-requires c κs = search needs
+stands-for-requires : tie.Need-stands-for-requires
+stands-for-requires c κs = search needs
 
 words-of-requires : tie.Need-words-of-requires
 words-of-requires c κs = search needs
 
 -- the words again
 again : (c : tie.After-words-of) → c .words-of .result ≡ wordsOf (phaseOf (c .before .before .args .words))
-again c = c .words-of .ensures ∙ ap wordsOf (c .before .phase-of .ensures)
+again c = c .words-of .ensures ∙ ap wordsOf (c .before .stands-for .ensures)
 
 -- where all but the last number are the same, the last decides
 last-number : (v w : Words) → v ≡ wordsOf (phaseOf w) → v .tag ≡ w .tag → v .peak ≡ w .peak → v .a ≡ w .a → eqb (v .b) (w .b) ≡ legal w
@@ -40,4 +40,4 @@ returns-4 c = last-number _ _ (again (c .before .before .before .before .before 
 
 pub is-legal-spec : {M : Type 1} → statement M
 is-legal-spec =
-    tie.close (tie.spec phase-of-requires words-of-requires returns returns-2 returns-3 returns-4)
+    tie.close (tie.spec stands-for-requires words-of-requires returns returns-2 returns-3 returns-4)

@@ -14,7 +14,7 @@ returns c =
     waits (a .config) (a .words) (a .verdict) (a .wander) (a .time) (sym (c .before .is-warming .ensures) ∙ c .if1 .taken) (start .pre .0)
 
 phase-of-requires : tie.Need-phase-of-requires
-phase-of-requires c κs = search needs
+phase-of-requires c κs = c .before .before .pre .0
 
 cast-push : tie.Need-cast-push
 cast-push c = search needs

@@ -1,8 +1,8 @@
--- `fall_words::phase_of` meets its contract: with the tag known, the definition computes; any other tag is none of its five. Assumes nothing.
+-- `fall_words::stands_for` meets its contract: with the tag known, the definition computes; any other tag is none of its five. Assumes nothing.
 use borrow.Author.Tests.{ne-eqb}
 use Rattle.fall_words.specs.Stored.{phaseOf}
-use Rattle.fall_words.proofs.phase_of.Statement.{statement}
-use Rattle.fall_words.proofs.phase_of.Tie as tie
+use Rattle.fall_words.proofs.stands_for.Statement.{statement}
+use Rattle.fall_words.proofs.stands_for.Tie as tie
 
 returns : tie.Need-returns
 unfolding phaseOf
@@ -30,5 +30,5 @@ returns-6 c =
     let r = c .match .rest in
     simp (ne-eqb _ _ (r .0 .0 .0 .0 .1), ne-eqb _ _ (r .0 .0 .0 .1), ne-eqb _ _ (r .0 .0 .1), ne-eqb _ _ (r .0 .1), ne-eqb _ _ (r .1))
 
-pub phase-of-spec : {M : Type 1} → statement M
-phase-of-spec = tie.close (tie.spec returns returns-2 returns-3 returns-4 returns-5 returns-6)
+pub stands-for-spec : {M : Type 1} → statement M
+stands-for-spec = tie.close (tie.spec returns returns-2 returns-3 returns-4 returns-5 returns-6)
