@@ -44,41 +44,12 @@ pub struct Pushed {
     pub said: Said,
 }
 
-#[repr(C)]
-#[derive(Debug, Clone, Copy, PartialEq)]
-pub struct Ran {
-    pub refusal: u8,
-    pub words: Words,
-    pub falls: u64,
-}
-
 unsafe extern "C" {
     fn fall_push(config: Config, words: Words, wander: u16, now: u64) -> Pushed;
-    fn fall_run(
-        config: Config,
-        words: Words,
-        wanders: *const u16,
-        wanders_len: usize,
-        times: *const u64,
-        times_len: usize,
-    ) -> Ran;
 }
 
 pub fn push(config: Config, words: Words, wander: u16, now: u64) -> Pushed {
     unsafe { fall_push(config, words, wander, now) }
-}
-
-pub fn run(config: Config, words: Words, wanders: &[u16], times: &[u64]) -> Ran {
-    unsafe {
-        fall_run(
-            config,
-            words,
-            wanders.as_ptr(),
-            wanders.len(),
-            times.as_ptr(),
-            times.len(),
-        )
-    }
 }
 
 impl Config {

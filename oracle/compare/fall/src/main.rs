@@ -6,7 +6,7 @@ mod state;
 use std::fmt::Debug;
 use std::process::ExitCode;
 
-use calls::{Config, Pushed, Ran, Said, Words, push, run};
+use calls::{Config, Pushed, Said, Words, push};
 use oracle::differ::{self, Differ};
 use oracle::radar::fall::{FallConfig, FallDetector};
 use oracle::random::Random;
@@ -172,7 +172,6 @@ fn one_random(differ: &mut Differ, random: &mut Random) {
         config.still_permille,
     ];
     let mut pair = Pair::new(config);
-    let (mut wanders, mut times) = (Vec::new(), Vec::new());
     let mut now = random.pick(&[0, 1000, u64::MAX - 200]);
     for i in 0..random.between(1, 400) {
         now = match random.below(64) {
@@ -191,23 +190,12 @@ fn one_random(differ: &mut Differ, random: &mut Random) {
         if random.one_in(16) {
             pair.compare_state(differ, &(config, i, wander, now));
         }
-        wanders.push(wander);
-        times.push(now);
     }
     pair.compare_state(differ, &config);
-    // The same in one call; a wander without a time counts for nothing.
-    let rust = Ran {
-        refusal: 0,
-        words: pair.ours,
-        falls: u64::from(pair.rust.events()),
-    };
-    wanders.push(random.word() as u16);
-    let ours = run(config, Words::default(), &wanders, &times);
-    differ.compare(&(config, &wanders, &times), &rust, &ours);
 }
 
 /// Words of every tag, with and without what the tag does not use: those of no state are refused with 2 and come
-/// back as they were, by both calls; of the others a run of one frame is a push, and a run of none changes nothing.
+/// back as they were; of the others the words after a frame are taken again.
 fn every_tag(differ: &mut Differ, random: &mut Random) {
     for tag in 0..=255 {
         for _ in 0..64 {
@@ -236,15 +224,10 @@ fn every_tag(differ: &mut Differ, random: &mut Random) {
             let input = (config, words);
             let ours = (pushed.said.refusal, pushed);
             differ.compare(&input, &(refusal, due), &ours);
-            let ran = |words, falls| Ran {
-                refusal,
-                words,
-                falls,
-            };
-            let one = ran(pushed.words, u64::from(pushed.said.fall));
-            differ.compare(&input, &one, &run(config, words, &[wander], &[now]));
-            let none = ran(words, 0);
-            differ.compare(&input, &none, &run(config, words, &[], &[now]));
+            if refusal == 0 {
+                let again = push(config, pushed.words, wander, now);
+                differ.compare(&input, &0, &again.said.refusal);
+            }
         }
     }
 }
@@ -276,7 +259,14 @@ fn pace(random: &mut Random, frames: u64) {
                 rust_falls += u64::from(detector.push(*wander, Micros(*now)).is_some());
             }
         },
-        || our_falls += run(ours, Words::default(), &wanders, &times).falls,
+        || {
+            let mut words = Words::default();
+            for (wander, now) in wanders.iter().zip(&times) {
+                let pushed = push(ours, words, *wander, *now);
+                words = pushed.words;
+                our_falls += u64::from(pushed.said.fall);
+            }
+        },
     );
     assert_eq!(rust_falls, our_falls);
     println!("fall: {frames} frames, {} falls, {ratio}", our_falls / 42);

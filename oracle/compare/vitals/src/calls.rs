@@ -122,8 +122,6 @@ unsafe extern "C" {
     ) -> Pushed;
 }
 
-oracle::exported_run!(pub vitals_run, u16, Config);
-
 pub fn lags(band: Band, rate_hz: u32) -> Covered {
     unsafe { vitals_lags(band, rate_hz) }
 }

@@ -1,6 +1,6 @@
 //! Breathing and heart against the Rust: `compare_vitals [seed] [rounds]`.
 //!
-//! Runs of frames go through the steps and through the public calls; settings, states, totals and
+//! Frames go through `vitals_push` one by one; settings, states, totals and
 //! memory that do not fit are refused by document 01's numbers and leave everything as it was.
 //! A restart that meets an open block empties it; the Rust keeps its totals there, so ours is then
 //! held to a new one of the Rust's.
@@ -15,11 +15,11 @@ mod theirs;
 use std::fmt;
 use std::process::ExitCode;
 
-use calls::{Band, Begun, Config, Frame, NEW, Ours, Pushed};
+use calls::{Band, Begun, Config, Frame, NEW, Ours, Vitals};
 use inputs::{Source, config};
 use oracle::detectors::BLOCKS;
 use oracle::differ::{self, Differ};
-use oracle::frames::{COLUMNS, Frames};
+use oracle::frames::COLUMNS;
 use oracle::radar::vitals::VitalsEstimator;
 use oracle::random::Random;
 use oracle::{Micros, argument};
@@ -54,23 +54,8 @@ impl fmt::Display for Tally {
     }
 }
 
-/// An answer of a run: 0, or a number of 50 bits.
-fn unpacked(word: u64) -> Answer {
-    let due = word >> 48 != 0;
-    let part = |from: u32| (word >> from) as u16;
-    due.then(|| (part(0), part(16), part(32).into(), word >> 49 != 0))
-}
-
-/// The answers of a run over these rows.
-fn run(mut rows: Vec<u8>, n: usize, config: Config, frames: &[Frame]) -> Vec<Answer> {
-    let mut answers = vec![1; frames.len()];
-    let fed = calls::run(&Frames::of(frames), &mut rows, n, config, &mut answers);
-    assert_eq!(fed, frames.len());
-    answers.into_iter().map(unpacked).collect()
-}
-
-/// Frames through a run by steps.
-fn by_steps(
+/// Frames through a new estimator, each compared as it goes.
+fn fed(
     differ: &mut Differ,
     tally: &mut Tally,
     random: &mut Random,
@@ -79,13 +64,43 @@ fn by_steps(
     frames: &[Frame],
 ) {
     let mut theirs = Theirs::new(n, config);
-    let ours = run(random.bytes(2 * n * COLUMNS), n, config, frames);
-    for (i, (frame, ours)) in frames.iter().zip(ours).enumerate() {
-        let rust = theirs.push(frame);
-        differ.compare(&("run", n, config, i, frame.count), &rust, &ours);
-        tally.add(rust);
+    let mut ours = Ours::new(random, n, config);
+    for (i, frame) in frames.iter().enumerate() {
+        pushed(differ, tally, &mut theirs, &mut ours, i, frame);
     }
     tally.renewed += theirs.renewed;
+}
+
+/// One frame to both: all that the call tells. Where no estimate is due the numbers are 0.
+fn pushed(
+    differ: &mut Differ,
+    tally: &mut Tally,
+    theirs: &mut Theirs,
+    ours: &mut Ours,
+    i: usize,
+    frame: &Frame,
+) {
+    let rust = theirs.push(frame);
+    let pushed = ours.push(*frame);
+    ours.state = pushed.state;
+    let input = ("push", ours.n, ours.config, i, frame.count);
+    let told = (0, rust.is_some(), shown(rust, frame.time));
+    differ.compare(&input, &told, &(pushed.refusal, pushed.due, pushed.vitals));
+    tally.add(rust);
+}
+
+/// The Rust's answer as the call shows it.
+fn shown(answer: Answer, time: u64) -> Vitals {
+    answer.map_or(
+        Vitals::default(),
+        |(bpm_x10, confidence, lag_x16, accepted)| Vitals {
+            bpm_x10,
+            confidence,
+            lag_x16,
+            accepted,
+            at: time,
+        },
+    )
 }
 
 /// Frames of a source; with `anywhere` the count may change within a block.
@@ -132,15 +147,7 @@ fn by_calls(differ: &mut Differ, tally: &mut Tally, random: &mut Random, n: usiz
             differ.compare(&("reset", n, config, i), &due, &begun);
             ours.state = begun.state;
         }
-        let rust = theirs.push(&frame);
-        let pushed = ours.push(frame);
-        ours.state = pushed.state;
-        let Pushed { due, vitals: v, .. } = pushed;
-        let answer = due.then_some((v.bpm_x10, v.confidence, v.lag_x16, v.accepted));
-        let told = (rust, if rust.is_some() { frame.time } else { 0 }, 0);
-        let input = ("call", n, config, i, frame.count);
-        differ.compare(&input, &told, &(answer, v.at, pushed.refusal));
-        tally.add(rust);
+        pushed(differ, tally, &mut theirs, &mut ours, i, &frame);
     }
     tally.renewed += theirs.renewed;
 }
@@ -153,18 +160,18 @@ fn ends(differ: &mut Differ, tally: &mut Tally, random: &mut Random) {
         (slow.rate_hz, slow.band) = (10, calls::breathing(50).band);
         slow.band.hi_mhz = 6000;
         let frames = frames_of(random, n, slow, n + 1, false);
-        by_steps(differ, tally, random, n, slow, &frames);
+        fed(differ, tally, random, n, slow, &frames);
         let full = Frame::of(&[65_535; COLUMNS], 0);
-        by_steps(differ, tally, random, n, slow, &vec![full; 32_767 * 4]);
+        fed(differ, tally, random, n, slow, &vec![full; 32_767 * 4]);
     }
     let mut rare = config(random, 4);
     (rare.decim, rare.update_every) = (1, 65_535);
     let frames = frames_of(random, 4, rare, 140_000, false);
-    by_steps(differ, tally, random, 4, rare, &frames);
+    fed(differ, tally, random, 4, rare, &frames);
 }
 
 /// What a restart with a block open makes of it: the Rust keeps the totals, ours and a new one do not.
-fn half_filled(differ: &mut Differ) {
+fn half_filled(differ: &mut Differ, random: &mut Random) {
     let config = Config {
         decim: 2,
         rate_hz: 10,
@@ -192,12 +199,17 @@ fn half_filled(differ: &mut Differ) {
         answers.last().unwrap().map(numbers)
     };
     let (kept, new) = (last(0), last(1));
-    let ours = run(vec![0; 2 * 8 * COLUMNS], 8, config, &frames);
-    differ.compare(&"block emptied", &new, ours.last().unwrap());
+    let mut ours = Ours::new(random, 8, config);
+    let mut told = Vitals::default();
+    for &frame in &frames {
+        let pushed = ours.push(frame);
+        (ours.state, told) = (pushed.state, pushed.vitals);
+    }
+    differ.compare(&"block emptied", &shown(new, 0), &told);
     println!("a restart with a block open: the Rust {kept:?}, a new one {new:?}");
 }
 
-/// Frames of every number of blocks, by steps and by calls.
+/// Frames of every number of blocks, alone and with other calls between them.
 fn rounds(differ: &mut Differ, tally: &mut Tally, random: &mut Random, rounds: u64) {
     for _ in 0..rounds {
         for &n in BLOCKS {
@@ -208,7 +220,7 @@ fn rounds(differ: &mut Differ, tally: &mut Tally, random: &mut Random, rounds: u
                 let anywhere = random.one_in(3);
                 let blocks = n + random.between(1, 16 + 256 / n as u64) as usize;
                 let frames = frames_of(random, n, config, blocks, anywhere);
-                by_steps(differ, tally, random, n, config, &frames);
+                fed(differ, tally, random, n, config, &frames);
             }
             if n <= 128 || random.one_in(4) {
                 by_calls(differ, tally, random, n);
@@ -221,7 +233,7 @@ fn main() -> ExitCode {
     let count = argument(2, 100);
     differ::compare("vitals", |differ, random| {
         let tally = &mut Tally::default();
-        half_filled(differ);
+        half_filled(differ, random);
         bands::lags(differ, random, count);
         bands::presets(differ, random, count);
         refusals::new(differ, random);

@@ -4,13 +4,12 @@ use std::f64::consts::TAU;
 use std::hint::black_box;
 
 use oracle::Micros;
-use oracle::frames::{COLUMNS, Frames};
 use oracle::radar::csi::Features;
 use oracle::radar::vitals::VitalsEstimator;
 use oracle::random::Random;
 use oracle::timer::ratio;
 
-use crate::calls::{self, Config, Frame};
+use crate::calls::{self, Config, Frame, NEW, Ours};
 
 /// Frames at 50 Hz, 56 columns: breathing of 15 and a heart of 72 a minute, and noise.
 fn resting(random: &mut Random, frames: usize) -> Vec<Frame> {
@@ -28,11 +27,10 @@ fn resting(random: &mut Random, frames: usize) -> Vec<Frame> {
         .collect()
 }
 
-/// Runs by steps against the Rust's, N 128 and 56 columns.
+/// New estimators fed by pushes against the Rust's, N 128 and 56 columns.
 pub fn measure(random: &mut Random) {
     let frames = resting(random, 10_000);
     let features: Vec<Features> = frames.iter().map(Frame::features).collect();
-    let arrays = Frames::of(&frames);
     let never = |c: Config| Config {
         update_every: 65_535,
         ..c
@@ -49,8 +47,8 @@ pub fn measure(random: &mut Random) {
         ("neither due", vec![never(breathing), never(heart)]),
         ("blocks open", vec![slow]),
     ] {
-        let mut rows = vec![0; 2 * 128 * COLUMNS];
-        let mut answers = vec![0; frames.len()];
+        let ours = |&c| Ours::new(random, 128, c);
+        let mut all: Vec<Ours> = configs.iter().map(ours).collect();
         let ratio = ratio(
             15,
             || {
@@ -63,8 +61,11 @@ pub fn measure(random: &mut Random) {
                 }
             },
             || {
-                for &c in &configs {
-                    calls::run(&arrays, &mut rows, 128, c, &mut answers);
+                for ours in &mut all {
+                    ours.state = NEW;
+                    for &frame in &frames {
+                        ours.state = black_box(ours.push(black_box(frame))).state;
+                    }
                 }
             },
         );
