@@ -10,7 +10,7 @@ use Rattle.fall.specs.declared.Suspicion.{Suspicion}
 use Rattle.fall.specs.declared.Suspicion.the-variants.{Nothing, Fall}
 use Rattle.fall.specs.Fall.{pushed}
 use Rattle.fall_words.specs.declared.Words.{Words}
-use Rattle.fall_words.specs.Stored.{words, wordsOf, phaseOf, legal}
+use Rattle.fall_words.specs.Stored.{wordsOf, phaseOf, legal}
 use Rattle.fall_words.proofs.Stored.{legal-words}
 use Rattle.fall_c.specs.Calls.{saidOf, silentSaid, pushedWords}
 use Rattle.fall_c.specs.Promises.{Taken, NeverRefused}
