@@ -1,8 +1,8 @@
 //! The driver of both kinds of detector over a window, as `compare_presence` and
 //! `compare_phase_detector` have it: `[seed] [runs]`.
 //!
-//! Runs of frames go through the steps and through the public calls; settings, states, sums and
-//! memory that do not fit are refused by document 01's numbers and leave everything as it was.
+//! Frame after frame goes through the public calls; settings, states, sums and memory that do not
+//! fit are refused by document 01's numbers and leave everything as it was.
 
 mod calls;
 mod inputs;
@@ -17,7 +17,7 @@ use rusty_esp_core::Micros;
 use crate::argument;
 use crate::detectors::Detector;
 use crate::differ::{self, Differ};
-use crate::frames::{COLUMNS, Frame, Frames};
+use crate::frames::{COLUMNS, Frame};
 use crate::kinds::{self, Config, Kind, LONGEST, Numbers};
 use crate::random::Random;
 use crate::timer::ratio;
@@ -57,13 +57,8 @@ pub trait Subject: Clone {
         sums: Self::Sums,
         frame: FrameOf<Self>,
     ) -> Answer<Self::Sums>;
-    fn run(
-        frames: &Frames<Entry<Self>>,
-        rows: &mut [u8],
-        w: usize,
-        config: Settings<Self>,
-        answers: &mut [u64],
-    ) -> usize;
+    /// What else it exports.
+    fn others(_: &mut Differ) {}
 
     /// The sums of `w` rows of zeros.
     fn new_sums(w: usize) -> Self::Sums;
@@ -86,86 +81,105 @@ pub trait Subject: Clone {
 /// The whole comparison, and the pace at its end.
 pub fn drive<S: Subject>() -> ExitCode {
     differ::compare(S::NAME, |differ, random| {
+        S::others(differ);
         bench::<S>(differ, random);
         refusals::new::<S>(differ, random);
         for i in 0..argument(2, 2_000) {
             let w = random.pick(&[1, 2, 3, 5, 50]);
-            by_steps::<S>(differ, random, w, 600);
+            by_pushes::<S>(differ, random, w, 600);
             by_calls::<S>(differ, random, w, 200);
             if i % 250 == 0 {
-                by_steps::<S>(differ, random, LONGEST, 20_000);
                 by_calls::<S>(differ, random, LONGEST, 20);
             }
         }
+        longest::<S>(differ, random);
         measure::<S>(random);
     })
 }
 
 fn bench<S: Subject>(differ: &mut Differ, random: &mut Random) {
     for (w, [first, second], due) in S::BENCH {
-        let frame = |i: usize| Frame {
-            entry: [if i < w / 2 { first } else { second }; COLUMNS],
-            count: 1,
-            time: i as u64,
-        };
-        let frames: Vec<FrameOf<S>> = (0..w).map(frame).collect();
-        let ours = run::<S>(random, w, S::Kind::DEFAULT, &frames);
-        differ.compare(&("bench", w), &due, ours.last().unwrap());
+        let mut ours = Ours::<S>::new(random, w);
+        let answers = (0..w).map(|i| {
+            let frame = Frame {
+                entry: [if i < w / 2 { first } else { second }; COLUMNS],
+                count: 1,
+                time: i as u64,
+            };
+            ours.push(S::Kind::DEFAULT, frame)
+        });
+        differ.compare(&("bench", w), &due, &answers.last().unwrap());
     }
 }
 
-/// A run by the steps: frame after frame in one call.
-fn by_steps<S: Subject>(differ: &mut Differ, random: &mut Random, w: usize, frames: usize) {
-    let config = config::<S>(random);
-    let mut room = Room::<S>::new(random);
-    let frames: Vec<FrameOf<S>> = (0..frames).map(|_| room.frame(random)).collect();
-    let mut rust = S::Kind::detector(w, config);
-    let ours = run::<S>(random, w, config, &frames);
-    for (i, (frame, ours)) in frames.iter().zip(ours).enumerate() {
-        let rust = kinds::push::<S::Kind>(&mut *rust, frame);
-        let input = (w, config, i, frame.count, frame.time);
+/// Both detectors, with their size and their settings.
+struct Pair<S: Subject> {
+    w: usize,
+    config: Settings<S>,
+    rust: Box<dyn Detector<<S::Kind as Kind>::Frame, Level<S>>>,
+    ours: Ours<S>,
+}
+
+impl<S: Subject> Pair<S> {
+    /// New ones, ours over memory of any content.
+    fn new(random: &mut Random, w: usize) -> Self {
+        let config = config::<S>(random);
+        Pair {
+            w,
+            config,
+            rust: S::Kind::detector(w, config),
+            ours: Ours::new(random, w),
+        }
+    }
+
+    fn push(&mut self, differ: &mut Differ, i: usize, frame: FrameOf<S>) {
+        let rust = kinds::push::<S::Kind>(&mut *self.rust, &frame);
+        let ours = self.ours.push(self.config, frame);
+        let input = (self.w, self.config, i, frame.count, frame.time);
         differ.compare(&input, &rust, &ours);
     }
 }
 
-/// The answers of a run over memory of any content.
-fn run<S: Subject>(
-    random: &mut Random,
-    w: usize,
-    config: Settings<S>,
-    frames: &[FrameOf<S>],
-) -> Vec<Numbers> {
-    let mut rows = random.bytes(2 * w * COLUMNS);
-    let mut answers = vec![0; frames.len()];
-    let fed = S::run(&Frames::of(frames), &mut rows, w, config, &mut answers);
-    assert_eq!(fed, frames.len());
-    let split = |a: u64| ((a >> 32) as u8, (a >> 40) as u8, a as u32);
-    answers.into_iter().map(split).collect()
+/// Frames alone.
+fn by_pushes<S: Subject>(differ: &mut Differ, random: &mut Random, w: usize, frames: usize) {
+    let mut room = Room::<S>::new(random);
+    let mut pair = Pair::<S>::new(random, w);
+    for i in 0..frames {
+        pair.push(differ, i, room.frame(random));
+    }
 }
 
-/// A run by the public calls, with resets and with damaged copies between the frames.
+/// Frames with resets and with damaged copies between them.
 fn by_calls<S: Subject>(differ: &mut Differ, random: &mut Random, w: usize, frames: usize) {
-    let config = config::<S>(random);
     let mut room = Room::<S>::new(random);
-    let mut rust = S::Kind::detector(w, config);
-    let mut ours = Ours::<S>::new(random, w);
+    let mut pair = Pair::<S>::new(random, w);
     for i in 0..frames {
         let frame = room.frame(random);
         if random.one_in(8) {
-            refusals::damaged(differ, random, &ours, config, frame);
+            refusals::damaged(differ, random, &pair.ours, pair.config, frame);
         }
         if random.one_in(50) {
-            rust.reset();
-            ours.reset();
+            pair.rust.reset();
+            pair.ours.reset();
         }
-        let rust = kinds::push::<S::Kind>(&mut *rust, &frame);
-        let ours = ours.push(config, frame);
-        let input = (w, config, i, frame.count, frame.time);
-        differ.compare(&input, &rust, &ours);
+        pair.push(differ, i, frame);
     }
 }
 
-/// A push by steps against the Rust's, W 50 and 56 columns.
+/// The longest window, filled by frames of one count and then moved on.
+fn longest<S: Subject>(differ: &mut Differ, random: &mut Random) {
+    let mut room = Room::<S>::new(random);
+    let mut pair = Pair::<S>::new(random, LONGEST);
+    for i in 0..LONGEST + 500 {
+        let frame = Frame {
+            count: 56,
+            ..room.frame(random)
+        };
+        pair.push(differ, i, frame);
+    }
+}
+
+/// A push, which checks the memory, against the Rust's, W 50 and 56 columns.
 fn measure<S: Subject>(random: &mut Random) {
     let config = S::Kind::DEFAULT;
     let frames: Vec<FrameOf<S>> = (0..10_000)
@@ -182,20 +196,21 @@ fn measure<S: Subject>(random: &mut Random) {
         })
         .collect();
     let rust_frames: Vec<_> = frames.iter().map(S::Kind::frame).collect();
-    let arrays = Frames::of(&frames);
-    let mut rows = vec![0; 2 * 50 * COLUMNS];
-    let mut answers = vec![0; frames.len()];
+    let begun = Ours::<S>::new(random, 50);
     let ratio = ratio(
         21,
         || {
             let mut rust = S::Kind::timed(config);
-            for (frame, &time) in rust_frames.iter().zip(&arrays.times) {
-                black_box(rust.push(black_box(frame), Micros(time)));
+            for (rust_frame, frame) in rust_frames.iter().zip(&frames) {
+                black_box(rust.push(black_box(rust_frame), Micros(frame.time)));
             }
         },
         || {
-            S::run(&arrays, &mut rows, 50, config, &mut answers);
+            let mut ours = begun.clone();
+            for &frame in &frames {
+                black_box(ours.push(config, frame));
+            }
         },
     );
-    println!("10,000 pushes, W 50, 56 columns: {ratio}");
+    println!("10,000 pushes, memory checked, W 50, 56 columns: {ratio}");
 }

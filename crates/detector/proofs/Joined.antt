@@ -1,8 +1,8 @@
--- Laws of verdicts: one from two, and one from its two numbers. Assumes nothing.
+-- Laws of verdicts: one from two. Assumes nothing.
 use mathlib.Core.Path.{_≡_, refl, ap}
 use Prim.Native.Nat.{ℕ, max, _≤_, _<_}
 use native.Mathlib.Omega.{arith}
-use Rattle.detector.specs.Verdict.{verdictTag, motionOf, eitherOf, verdictFrom}
+use Rattle.detector.specs.Verdict.{eitherOf}
 use Rattle.detector.specs.declared.Verdict.{Verdict}
 use Rattle.detector.specs.declared.Verdict.the-variants.{Warming, Absent, Present}
 
@@ -20,9 +20,3 @@ absent-by (Present b) = refl
 
 pub absent-first : (s o : Verdict) → s ≡ Absent → o ≡ eitherOf s o
 absent-first s o e = rw e (absent-by o)
-
--- its two numbers say which verdict it is
-pub verdict-back : (v : Verdict) → verdictFrom (verdictTag v) (motionOf v) ≡ v
-verdict-back Warming = refl
-verdict-back Absent = refl
-verdict-back (Present m) = refl

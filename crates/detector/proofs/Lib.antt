@@ -3,3 +3,5 @@ pub mod Pushes
 pub mod Calls
 pub mod Reset
 pub mod Even
+pub mod InWords
+pub mod Taken

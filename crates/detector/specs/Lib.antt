@@ -3,3 +3,5 @@ pub mod Decision
 pub mod State
 pub mod Detector
 pub mod Calls
+pub mod Words
+pub mod Promises

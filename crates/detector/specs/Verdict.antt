@@ -1,7 +1,5 @@
 -- What a detector concluded (csi.rs, `Verdict`; document 01: `warming`, `absent`, `present`, and the motion, 0 unless present). Assumes nothing.
-use mathlib.Core.Bool.{cond}
 use Prim.Native.Nat.{ℕ, max}
-use lib.Dec.{eqb}
 use Rattle.detector.specs.declared.Verdict.{Verdict}
 use Rattle.detector.specs.declared.Verdict.the-variants.{Warming, Absent, Present}
 
@@ -28,7 +26,3 @@ eitherOf Warming Warming = Warming
 eitherOf Warming Absent = Warming
 eitherOf Absent Warming = Warming
 eitherOf Absent Absent = Absent
-
--- the verdict of a number and a motion
-abbrev pub verdictFrom : (tag motion : ℕ) → Verdict
-verdictFrom tag m = cond (eqb tag 0) Warming (cond (eqb tag 1) Absent (Present m))

@@ -1,7 +1,9 @@
 // What presence and phase share (csi.rs, phase.rs): the verdict, the limits, and the state beside the ring and its sums.
 ghost use mathlib.Core.Path.{_≡_};
+ghost use mathlib.Core.Bool.{cond};
 ghost use Rattle.detector.specs.Verdict.{verdictTag, motionOf, eitherOf};
-ghost use Rattle.detector.specs.State.{newState, resetState};
+ghost use Rattle.detector.specs.State.{newState};
+ghost use Rattle.detector.specs.Words.{isState, stateOf, wordsOf};
 
 pub mod steps;
 
@@ -88,17 +90,55 @@ impl State {
             last_motion: 0,
         }
     }
+}
 
-    // Forgets the window. The time of the last motion stays, as in the Rust.
-    pub fn reset(self) -> State
-        ensures { λ r. ⌜ r ≡ resetState self ⌝ }
+// A state as numbers, as C has it: `present` is 1 where there is presence, else 0.
+#[repr(C)]
+pub struct Words {
+    pub count: usize,
+    pub filled: usize,
+    pub next: usize,
+    pub wander: u32,
+    pub present: u8,
+    pub last_motion: u64,
+}
+
+fn flag(b: bool) -> u8
+    ensures { λ r. ⌜ r ≡ cond b 1 0 ⌝ }
+{
+    if b { 1 } else { 0 }
+}
+
+impl Words {
+    pub fn of(s: State) -> Words
+        ensures { λ r. ⌜ r ≡ wordsOf s ⌝ }
+    {
+        Words {
+            count: s.count,
+            filled: s.filled,
+            next: s.next,
+            wander: s.wander,
+            present: flag(s.present),
+            last_motion: s.last_motion,
+        }
+    }
+
+    // Whether they are a state's: else refusal 2.
+    pub fn is_state(self) -> bool
+        ensures { λ r. ⌜ r ≡ isState self ⌝ }
+    {
+        self.present <= 1
+    }
+
+    pub fn state(self) -> State
+        ensures { λ r. ⌜ r ≡ stateOf self ⌝ }
     {
         State {
-            count: 0,
-            filled: 0,
-            next: 0,
-            wander: 0,
-            present: false,
+            count: self.count,
+            filled: self.filled,
+            next: self.next,
+            wander: self.wander,
+            present: self.present == 1,
             last_motion: self.last_motion,
         }
     }

@@ -1,9 +1,10 @@
 // The steps of a state, in the order of a push, and the test of a state. The caller has tested settings and state.
 ghost use mathlib.Core.Path.{_≡_};
+ghost use mathlib.Core.Bool.{cond};
 ghost use Prim.Native.Nat.{_<_, _≤_};
 ghost use Rattle.window.specs.Window.{columns};
 ghost use Rattle.detector.specs.Decision.{presentAfter, lastAfter, verdictAt};
-ghost use Rattle.detector.specs.State.{startState, nextState, judgedState, isPlaced};
+ghost use Rattle.detector.specs.State.{resetState, startState, nextState, judgedState, isPlaced};
 ghost use Rattle.detector.specs.Calls.{isWindow};
 use crate::Limits;
 use crate::State;
@@ -31,6 +32,20 @@ fn last_after(limits: Limits, now: u64, wander: u32, last: u64) -> u64
     ensures { λ r. ⌜ r ≡ lastAfter limits now wander last ⌝ }
 {
     if limits.on <= wander { now } else { last }
+}
+
+// Forgets the window. The time of the last motion stays, as in the Rust.
+pub fn reset_state(s: State) -> State
+    ensures { λ r. ⌜ r ≡ resetState s ⌝ }
+{
+    State {
+        count: 0,
+        filled: 0,
+        next: 0,
+        wander: 0,
+        present: false,
+        last_motion: s.last_motion,
+    }
 }
 
 // A frame of another count restarts the window: the rows and their sums stay.
@@ -102,6 +117,13 @@ pub fn is_window(w: usize) -> bool
         return false;
     }
     w <= MAX_ROWS
+}
+
+// The refusal of numbers that are no state's: 1 for the window's size, else 2.
+pub fn no_state(w: usize) -> u8
+    ensures { λ r. ⌜ r ≡ cond (isWindow w) 2 1 ⌝ }
+{
+    if is_window(w) { 2 } else { 1 }
 }
 
 // Whether a state is in range over w rows, where no wander is above `top`: else refusal 2.

@@ -85,7 +85,7 @@ pub fn reset(rows: &[u8], w: usize, state: State, sums: Sums) -> Outcome
         if steps::is_valid(rows, w, state, sums) {
             return Outcome {
                 refusal: 0,
-                state: state.reset(),
+                state: detector::steps::reset_state(state),
                 sums,
             };
         }

@@ -18,6 +18,10 @@ presenceKind = record { sums = amplitudes; wanderOf = windowWander; top = 65535;
 abbrev pub limitsOf : Config → Limits
 limitsOf cfg = record { on = cfg .«on_permille»; off = cfg .«off_permille»; hold = cfg .hold }
 
+-- `Config::normalised_default`, for amplitudes divided by their frame's mean
+abbrev pub normalisedDefault : Config
+normalisedDefault = record { «on_permille» = 32; «off_permille» = 23; hold = 3000000 }
+
 abbrev pub noSums : Sums
 noSums = record { sum = replicate columns 0; sumsq = replicate columns 0 }
 

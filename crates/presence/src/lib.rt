@@ -3,7 +3,7 @@
 ghost use mathlib.Core.Path.{_≡_};
 ghost use Rattle.window.specs.Window.{columns};
 ghost use Rattle.detector.specs.Calls.{Begins, Resets, Calls};
-ghost use Rattle.presence.specs.Presence.{presenceKind, limitsOf, refusedAnswer};
+ghost use Rattle.presence.specs.Presence.{presenceKind, limitsOf, normalisedDefault, refusedAnswer};
 use detector::State;
 use detector::Verdict;
 use window::COLUMNS;
@@ -16,6 +16,19 @@ pub struct Config {
     pub on_permille: u16,
     pub off_permille: u16,
     pub hold: u64,
+}
+
+impl Config {
+    // For amplitudes divided by their frame's mean: 32 and 23 permille, three seconds.
+    pub fn normalised_default() -> Config
+        ensures { λ r. ⌜ r ≡ normalisedDefault ⌝ }
+    {
+        Config {
+            on_permille: 32,
+            off_permille: 23,
+            hold: 3000000,
+        }
+    }
 }
 
 // The sums and the square sums of the columns, over all rows of the ring.
@@ -85,7 +98,7 @@ pub fn reset(rows: &[u8], w: usize, state: State, sums: Sums) -> Outcome
         if steps::is_valid(rows, w, state, sums) {
             return Outcome {
                 refusal: 0,
-                state: state.reset(),
+                state: detector::steps::reset_state(state),
                 sums,
             };
         }

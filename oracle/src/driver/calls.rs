@@ -5,6 +5,7 @@ use crate::frames::COLUMNS;
 use crate::kinds::Numbers;
 use crate::random::Random;
 
+/// A state as numbers; `present` is 0 or 1.
 #[repr(C)]
 #[derive(Debug, Default, Clone, Copy, PartialEq)]
 pub struct State {
@@ -12,7 +13,7 @@ pub struct State {
     pub filled: usize,
     pub next: usize,
     pub wander: u32,
-    pub present: bool,
+    pub present: u8,
     pub last_motion: u64,
 }
 
@@ -38,7 +39,7 @@ pub struct Answer<T> {
 /// entry, of a threshold and of the sums.
 #[macro_export]
 macro_rules! exported_calls {
-    ($new:ident, $reset:ident, $push:ident, $run:ident: $entry:ty, $level:ty, $sums:ty) => {
+    ($new:ident, $reset:ident, $push:ident: $entry:ty, $level:ty, $sums:ty) => {
         fn begin(rows: &mut [u8], w: usize) -> $crate::driver::Outcome<$sums> {
             unsafe extern "C" {
                 fn $new(rows: *mut u8, rows_len: usize, w: usize)
@@ -89,8 +90,6 @@ macro_rules! exported_calls {
             // SAFETY: the pointer and length are those of a slice.
             unsafe { $push(rows.as_mut_ptr(), rows.len(), w, config, state, sums, frame) }
         }
-
-        $crate::exported_run!($run, $entry, $crate::kinds::Config<$level>);
     };
 }
 

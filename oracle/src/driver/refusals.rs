@@ -76,22 +76,26 @@ pub fn damaged<S: Subject>(
 fn spoil<S: Subject>(random: &mut Random, bad: &mut Ours<S>, frame: &mut FrameOf<S>) -> u8 {
     let column = random.below(COLUMNS as u64) as usize;
     let (w, len) = (bad.w, bad.rows.len());
-    match random.below(10) {
+    match random.below(11) {
         0 => bad.state.next = random.pick(&[w, w + 1, usize::MAX]),
         1 => bad.state.filled = random.pick(&[w + 1, usize::MAX]),
         2 => bad.state.count = random.pick(&[65, 66, usize::MAX]),
         3 => bad.state.wander = random.pick(&[S::MOST + 1, u32::MAX]),
-        4 => S::spoil_sum(random, &mut bad.sums, column, false),
-        5 => S::spoil_sum(random, &mut bad.sums, column, true),
-        6 => {
+        4 => bad.state.present = random.pick(&[2, 3, 128, 255]),
+        5 => S::spoil_sum(random, &mut bad.sums, column, false),
+        6 => S::spoil_sum(random, &mut bad.sums, column, true),
+        7 => {
             let at = random.below(len as u64) as usize;
             S::spoil_row(random, &mut bad.rows, at);
         }
-        7 => {
+        8 => {
             let other = if random.one_in(2) { len + 1 } else { len - 1 };
             bad.rows.resize(other, 0);
         }
-        8 => {
+        9 => {
+            if random.one_in(2) {
+                bad.state.present = 2;
+            }
             bad.w = random.pick(&[0, LONGEST + 1, usize::MAX]);
             return SETTINGS;
         }

@@ -5,7 +5,7 @@ use std::process::ExitCode;
 
 use oracle::driver::{Subject, drive};
 use oracle::frames::COLUMNS;
-use oracle::kinds::{self, LONGEST, Numbers};
+use oracle::kinds::{self, Numbers};
 use oracle::random::Random;
 
 #[repr(C)]
@@ -27,12 +27,10 @@ impl Subject for PhaseDetector {
     const JITTERS: &'static [u64] = &[1, 2, 100, 400, 2000, 20_000, 65_536];
     const BENCH: [(usize, [i16; 2], Numbers); 2] = [
         (2, [0, -32_768], (2, 255, 1_000_000)),
-        (LONGEST, [0, -32_768], (2, 255, 1_000_000)),
+        (200, [0, -32_768], (2, 255, 1_000_000)),
     ];
 
-    oracle::exported_calls!(
-        phase_detector_new, phase_detector_reset, phase_detector_push, phase_detector_run: i16, u32, Sums
-    );
+    oracle::exported_calls!(phase_detector_new, phase_detector_reset, phase_detector_push: i16, u32, Sums);
 
     fn new_sums(w: usize) -> Sums {
         Sums {

@@ -3,9 +3,11 @@
 use std::array;
 use std::process::ExitCode;
 
+use oracle::differ::Differ;
 use oracle::driver::{Subject, drive};
 use oracle::frames::COLUMNS;
-use oracle::kinds::{self, LONGEST, Numbers};
+use oracle::kinds::{self, Config, LONGEST, Numbers};
+use oracle::radar::csi;
 use oracle::random::Random;
 
 #[repr(C)]
@@ -30,7 +32,16 @@ impl Subject for Presence {
         (LONGEST, [0, 65_535], (2, 255, 1000)),
     ];
 
-    oracle::exported_calls!(presence_new, presence_reset, presence_push, presence_run: u16, u16, Sums);
+    oracle::exported_calls!(presence_new, presence_reset, presence_push: u16, u16, Sums);
+
+    fn others(differ: &mut Differ) {
+        unsafe extern "C" {
+            safe fn presence_normalised_default() -> Config<u16>;
+        }
+        let rust = csi::Config::normalised_default();
+        let ours = csi::Config::from(presence_normalised_default());
+        differ.compare(&"normalised default", &rust, &ours);
+    }
 
     fn new_sums(_: usize) -> Sums {
         Sums {
