@@ -142,6 +142,9 @@ static void presence(void)
     q.sums.sum[0]++;
     CHECK(presence_reset(rows, sizeof rows, 2, q.state, q.sums).refusal == VOLKJARP_REFUSE_MEMORY);
     q.sums.sum[0]--;
+    q.state.present = 2;
+    CHECK(presence_reset(rows, sizeof rows, 2, q.state, q.sums).refusal == VOLKJARP_REFUSE_MEMORY);
+    q.state.present = 1;
     p = presence_reset(rows, sizeof rows, 2, q.state, q.sums);
     CHECK(p.refusal == VOLKJARP_ACCEPT && p.state.filled == 0 && p.state.present == 0);
 }
@@ -197,6 +200,10 @@ static void phase_detector(void)
     CHECK(phase_detector_reset(rows, sizeof rows, 2, q.state, q.sums).refusal ==
           VOLKJARP_REFUSE_MEMORY);
     q.state.next = 0;
+    q.state.present = 2;
+    CHECK(phase_detector_reset(rows, sizeof rows, 2, q.state, q.sums).refusal ==
+          VOLKJARP_REFUSE_MEMORY);
+    q.state.present = 1;
     p = phase_detector_reset(rows, sizeof rows, 2, q.state, q.sums);
     CHECK(p.refusal == VOLKJARP_ACCEPT && p.state.filled == 0);
 }
