@@ -85,6 +85,9 @@ struct volkjarp_fall_config {
     uint64_t min_active, quiet_grace, settle, still_for, refractory;
 };
 
+/* The settings for amplitudes divided by their frame's mean. */
+struct volkjarp_presence_config presence_normalised_default(void);
+
 /* The presets of breathing (9 to 33 a minute) and heart (42 to 132), for so many frames a second: a
  * multiple of 50, or the rates are off. */
 struct volkjarp_vitals_config vitals_breathing(uint32_t frame_hz);
@@ -301,9 +304,7 @@ static inline struct volkjarp_settings volkjarp_presets(uint32_t frame_hz)
     struct volkjarp_settings s;
     s.window = 50;
     s.blocks = 128;
-    s.presence.on_permille = 32;
-    s.presence.off_permille = 23;
-    s.presence.hold = 3 * second;
+    s.presence = presence_normalised_default();
     s.phase.on_ppm = 380;
     s.phase.off_ppm = 260;
     s.phase.hold = 3 * second;

@@ -3,7 +3,7 @@ ghost use mathlib.Core.Path.{_≡_};
 ghost use mathlib.Core.Bool.{cond};
 ghost use Rattle.detector.specs.Verdict.{verdictTag, motionOf, eitherOf};
 ghost use Rattle.detector.specs.State.{newState};
-ghost use Rattle.detector.specs.Words.{isState, stateOf, wordsOf};
+ghost use Rattle.detector.specs.Words.{isState, wordsOf};
 
 pub mod steps;
 
@@ -128,18 +128,5 @@ impl Words {
         ensures { λ r. ⌜ r ≡ isState self ⌝ }
     {
         self.present <= 1
-    }
-
-    pub fn state(self) -> State
-        ensures { λ r. ⌜ r ≡ stateOf self ⌝ }
-    {
-        State {
-            count: self.count,
-            filled: self.filled,
-            next: self.next,
-            wander: self.wander,
-            present: self.present == 1,
-            last_motion: self.last_motion,
-        }
     }
 }

@@ -1,14 +1,16 @@
 // The steps of a state, in the order of a push, and the test of a state. The caller has tested settings and state.
 ghost use mathlib.Core.Path.{_≡_};
-ghost use mathlib.Core.Bool.{cond};
+ghost use mathlib.Core.Bool.{true, cond};
 ghost use Prim.Native.Nat.{_<_, _≤_};
 ghost use Rattle.window.specs.Window.{columns};
 ghost use Rattle.detector.specs.Decision.{presentAfter, lastAfter, verdictAt};
 ghost use Rattle.detector.specs.State.{resetState, startState, nextState, judgedState, isPlaced};
 ghost use Rattle.detector.specs.Calls.{isWindow};
+ghost use Rattle.detector.specs.Words.{isState, stateOf};
 use crate::Limits;
 use crate::State;
 use crate::Verdict;
+use crate::Words;
 use window::COLUMNS;
 use window::MAX_ROWS;
 
@@ -117,6 +119,21 @@ pub fn is_window(w: usize) -> bool
         return false;
     }
     w <= MAX_ROWS
+}
+
+// The state that numbers are.
+pub fn state_of(words: Words) -> State
+    requires { ⌜ isState words ≡ true ⌝ }
+    ensures { λ r. ⌜ r ≡ stateOf words ⌝ }
+{
+    State {
+        count: words.count,
+        filled: words.filled,
+        next: words.next,
+        wander: words.wander,
+        present: words.present == 1,
+        last_motion: words.last_motion,
+    }
 }
 
 // The refusal of numbers that are no state's: 1 for the window's size, else 2.
