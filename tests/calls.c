@@ -121,7 +121,9 @@ static void presence(void)
     struct volkjarp_presence_begun p;
     struct volkjarp_presence_pushed q;
     struct volkjarp_amplitudes frame;
+    const struct volkjarp_presence_config normalised = presence_normalised_default();
 
+    CHECK(normalised.on_permille == 32 && normalised.off_permille == 23 && normalised.hold == 3 * SECOND);
     memset(&frame, 0, sizeof frame);
     frame.count = 1;
     frame.amplitude[0] = 1000;
