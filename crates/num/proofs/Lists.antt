@@ -70,9 +70,6 @@ module _ {A B : Type 0} (f : A → B) where
   drop-map (suc n) [] = refl
   drop-map (suc n) (x ∷ l) = drop-map n l
 
-  pub part-map : (n from : ℕ) (l : List A) → map f (take n (drop from l)) ≡ take n (drop from (map f l))
-  part-map n from l = sym (ap (take n) (drop-map from l) ∙ take-map n (drop from l))
-
 -- a part that reaches past the end ends there
 pub take-min : {A : Type 0} (k : ℕ) (l : List A) → take (min k (length l)) l ≡ take k l
 take-min k l =
