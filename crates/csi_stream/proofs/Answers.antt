@@ -1,9 +1,10 @@
 -- What the tests of the code say of the answers that `specs/Codec.antt` defines. Assumes nothing.
 use Prim.Native.Nat.{ℕ, _+_, _≤_, _<_}
-use mathlib.Core.Path.{_≡_}
-use mathlib.Core.Bool.{true, false}
+use mathlib.Core.Path.{_≡_, ap, _∙_}
+use mathlib.Core.Bool.{true, false, cond}
 use mathlib.Core.List.{List, _++_}
 use lib.IntN.{ℤ}
+use lib.Dec.{ltb}
 use lib.ListN.{length, getD, drop}
 use borrow.Author.Tests.{le-leb, lt-leb, le-ltb, lt-ltb, leb-true, eqb-true}
 use Rattle.csi_stream.specs.declared.Sample.{Sample}
@@ -11,9 +12,10 @@ use Rattle.csi_stream.specs.declared.Decoded.{Decoded}
 use Rattle.csi_stream.specs.declared.Encoded.{Encoded}
 use Rattle.num.specs.Words.{leAt}
 use Rattle.num.specs.Wrap.{signed8}
+use Rattle.num.proofs.Cond.{cond-ap}
 use Rattle.num.proofs.Logic.{both}
 use Rattle.csi_stream.specs.Wire.{encoded}
-use Rattle.csi_stream.specs.Codec.{legal, decodeOf, encodeOf, encodeInto}
+use Rattle.csi_stream.specs.Codec.{legal, decodeRefusal, encodeRefusal, decodeOf, decodedNumber, encodeOf, encodedNumber, encodeInto}
 
 -- what a legal record is
 pub tests : (r : List ℕ) → legal r ≡ true → (13 ≤ length r) × ((getD r 0 0 ≡ 1) × ((getD r 12 0 ≤ 128) × (length r ≡ 13 + getD r 12 0)))
@@ -32,6 +34,18 @@ accepted r t z e et ez = rw (et, ez, e)
 pub not-accepted : (r : List ℕ) → legal r ≡ false → Decoded.Refused 3 ≡ decodeOf r
 unfolding decodeOf
 not-accepted r e = rw e
+
+-- an answer with its number
+pub decoded-number : (r : List ℕ) (d : Decoded) → d ≡ decodeOf r → (d ≡ decodeOf r) × (decodedNumber d ≡ decodeRefusal r)
+unfolding decodeOf
+decoded-number r d e = (e, ap decodedNumber e ∙ cond-ap decodedNumber (legal r) _ _)
+
+pub encoded-number : (n m : ℕ) (d : Encoded) {P : Type 0} → (d ≡ encodeOf n m) × P → (d ≡ encodeOf n m) × ((encodedNumber d ≡ encodeRefusal n m) × P)
+unfolding encodeOf
+encoded-number n m d (e, p) =
+    let number : encodedNumber d ≡ encodeRefusal n m =
+    ap encodedNumber e ∙ cond-ap encodedNumber (ltb 128 n) _ _ ∙ ap (cond (ltb 128 n) 3) (cond-ap encodedNumber (ltb m (13 + n)) _ _) in
+    (e, (number, p))
 
 module _ (s : Sample) (iq out : List ℕ) where
   pub many : 128 < length iq → (Encoded.Refused 3 ≡ encodeOf (length iq) (length out)) × (out ≡ encodeInto s iq out)

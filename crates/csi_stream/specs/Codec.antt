@@ -19,6 +19,13 @@ legal r =
     leb headerLen (length r)
     && (eqb (getD r 0 0) version && (leb (getD r 12 0) maxIq && eqb (length r) (headerLen + getD r 12 0)))
 
+-- the number of document 01's refusal, 0 for none: of a record, and of n I/Q bytes that are to go into m bytes of space. 3 is judged before 6
+abbrev pub decodeRefusal : List ℕ → ℕ
+decodeRefusal r = cond (legal r) 0 3
+
+abbrev pub encodeRefusal : (n m : ℕ) → ℕ
+encodeRefusal n m = cond (ltb maxIq n) 3 (cond (ltb m (headerLen + n)) 6 0)
+
 unfoldable pub decodeOf : List ℕ → Decoded
 decodeOf r = cond (legal r) (Decoded.Accepted (sampleOf r) (getD r 12 0)) (Decoded.Refused 3)
 
@@ -32,8 +39,7 @@ pub record IqOf (s r : RefT (List ℕ)) : Type 0 where
   pub accepted : legal (now s) ≡ true → PartFrom headerLen s r
   pub refused : legal (now s) ≡ false → now r ≡ []
 
--- n I/Q bytes into m bytes of space. 3 is judged before 6
-unfoldable pub encodeOf : ℕ → ℕ → Encoded
+unfoldable pub encodeOf : (n m : ℕ) → Encoded
 encodeOf n m =
     cond (ltb maxIq n) (Encoded.Refused 3)
     (cond (ltb m (headerLen + n)) (Encoded.Short (headerLen + n)) (Encoded.Written (headerLen + n)))

@@ -4,7 +4,7 @@ mod wire;
 
 ghost use mathlib.Core.Path.{_≡_};
 ghost use lib.ListN.{length};
-ghost use Rattle.csi_stream.specs.Codec.{decodeOf, IqOf, encodeOf, encodeInto};
+ghost use Rattle.csi_stream.specs.Codec.{decodeRefusal, encodeRefusal, decodeOf, decodedNumber, IqOf, encodeOf, encodedNumber, encodeInto};
 
 // The version byte that every encoding starts with.
 pub const VERSION: u8 = 1;
@@ -37,7 +37,8 @@ pub enum Encoded {
 impl Sample {
     // Reads a record, the whole of which must be one sample. Any layout tag is taken.
     pub fn decode(bytes: &[u8]) -> Decoded
-        ensures { λ r. ⌜ r ≡ decodeOf (now (bytes .entry)) ⌝ }
+        ensures answer { λ r. ⌜ r ≡ decodeOf (now (bytes .entry)) ⌝ }
+        ensures number { λ r. ⌜ decodedNumber r ≡ decodeRefusal (now (bytes .entry)) ⌝ }
     {
         if wire::is_legal(bytes) {
             return Decoded::Accepted(
@@ -66,8 +67,9 @@ impl Sample {
 
     // Writes the sample with its I/Q bytes to the front of `out`.
     pub fn encode(self, iq: &[u8], out: &mut [u8]) -> Encoded
-        ensures { λ r. ⌜ r ≡ encodeOf (length (now (iq .entry))) (length (now (out .entry))) ⌝ }
-        ensures { λ _. ⌜ now (out .exit) ≡ encodeInto self (now (iq .entry)) (now (out .entry)) ⌝ }
+        ensures answer { λ r. ⌜ r ≡ encodeOf (length (now (iq .entry))) (length (now (out .entry))) ⌝ }
+        ensures number { λ r. ⌜ encodedNumber r ≡ encodeRefusal (length (now (iq .entry))) (length (now (out .entry))) ⌝ }
+        ensures space { λ _. ⌜ now (out .exit) ≡ encodeInto self (now (iq .entry)) (now (out .entry)) ⌝ }
     {
         let n = iq.len();
         if MAX_IQ < n {

@@ -41,6 +41,17 @@ abbrev pub fed : Baseline → (variance : ℕ) → Baseline
 fed b v = baseline (b .sum + v) (b .frames + 1)
 
 -- ---- what the calls answer. Refusals: 2 out of range, 7 count above 64, 8 full; a frame of count 0 is ignored
+-- their numbers, 0 for none
+abbrev pub calibrateRefusal : Baseline → Features → ℕ
+calibrateRefusal b f =
+    cond (not (good b)) 2 (cond (ltb maxSubcarriers (f .count)) 7 (cond (eqb (f .count) 0) 0 (cond (eqb (b .frames) maxFrames) 8 0)))
+
+abbrev pub meanRefusal : Baseline → ℕ
+meanRefusal b = cond (good b) 0 2
+
+abbrev pub distanceRefusal : Baseline → Features → ℕ
+distanceRefusal b f = cond (not (good b)) 2 (cond (ltb maxSubcarriers (f .count)) 7 0)
+
 unfoldable pub calibratedOf : Baseline → Features → Calibrated
 unfolding good
 calibratedOf b f =

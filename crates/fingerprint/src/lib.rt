@@ -1,6 +1,6 @@
 // The room's fingerprint: how far a frame's variance is from a calibrated mean (fingerprint.rs).
 ghost use mathlib.Core.Path.{_≡_};
-ghost use Rattle.fingerprint.specs.Baseline.{good, fresh, calibratedOf, meanAnswer, distanceAnswer};
+ghost use Rattle.fingerprint.specs.Baseline.{good, fresh, calibrateRefusal, meanRefusal, distanceRefusal, calibratedOf, meanAnswer, distanceAnswer, calibratedNumber, readingNumber};
 use csi::Features;
 
 pub mod steps;
@@ -49,7 +49,8 @@ impl Baseline {
 
     // One frame more. Refusals: 2 out of range, 7 count above 64, 8 full. A frame of count 0 is ignored.
     pub fn calibrate(self, features: Features) -> Calibrated
-        ensures { λ r. ⌜ r ≡ calibratedOf self features ⌝ }
+        ensures answer { λ r. ⌜ r ≡ calibratedOf self features ⌝ }
+        ensures number { λ r. ⌜ calibratedNumber r ≡ calibrateRefusal self features ⌝ }
     {
         if self.is_good() {
             if csi::MAX_SUBCARRIERS < features.count as usize {
@@ -68,7 +69,8 @@ impl Baseline {
 
     // The mean variance, 0 until calibrated. Refusal: 2 out of range.
     pub fn mean(self) -> Reading
-        ensures { λ r. ⌜ r ≡ meanAnswer self ⌝ }
+        ensures answer { λ r. ⌜ r ≡ meanAnswer self ⌝ }
+        ensures number { λ r. ⌜ readingNumber r ≡ meanRefusal self ⌝ }
     {
         if self.is_good() {
             return Reading::Value(steps::mean(self));
@@ -78,7 +80,8 @@ impl Baseline {
 
     // How far a frame is from the baseline, in permille; 0 without a mean. Refusals: 2 out of range, 7 count above 64.
     pub fn distance(self, features: Features) -> Reading
-        ensures { λ r. ⌜ r ≡ distanceAnswer self features ⌝ }
+        ensures answer { λ r. ⌜ r ≡ distanceAnswer self features ⌝ }
+        ensures number { λ r. ⌜ readingNumber r ≡ distanceRefusal self features ⌝ }
     {
         if self.is_good() {
             if csi::MAX_SUBCARRIERS < features.count as usize {

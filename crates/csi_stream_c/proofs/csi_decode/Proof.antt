@@ -26,7 +26,7 @@ returns c =
     let read = c .before .before in
     let a = read .before .before .before .before .args in
     let s = read .s .given .0 .0 in
-    let e = sym (read .s .given .1) ∙ read .before .before .decode .ensures in
+    let e = sym (read .s .given .1) ∙ read .before .before .decode .ensures .0 in
     let old = sampleFrom (a .at .now) (a .rssi .now) (a .channel .now) (a .layout .now) in
     let back = toZ-ofZ {w = w8} {z = s .rssi} (record { sfits = c .struct-told .given .1 .0 .1 }) in (
       ap decodedNumber e,
@@ -39,7 +39,7 @@ returns c =
 returns-2 : tie.Need-returns-2
 returns-2 c =
     let a = c .before .before .before .before .before .args in
-    let e = sym (c .before .k .given .1) ∙ c .before .before .before .decode .ensures in
+    let e = sym (c .before .k .given .1) ∙ c .before .before .before .decode .ensures .0 in
     let old = sampleFrom (a .at .now) (a .rssi .now) (a .channel .now) (a .layout .now) in
     (ap decodedNumber e, (ap (λ (d : Decoded). decodedSample d old) e, ap (λ (d : Decoded). decodedLen d (a .len .now)) e))
 

@@ -12,7 +12,7 @@ space : (c : tie.After-encode) → let a = c .before .before .before .before .ar
 space c =
     let start = c .before .before .before .before in
     let a = start .args in
-    c .encode .ensures .1 ∙ ap (λ (z : ℤ). encodeInto (sampleFrom (a .at) z (a .channel) (a .layout)) (a .iq .now) (a .out .now)) (toZ-ofZ (start .fits .rssi))
+    c .encode .ensures .1 .1 ∙ ap (λ (z : ℤ). encodeInto (sampleFrom (a .at) z (a .channel) (a .layout)) (a .iq .now) (a .out .now)) (toZ-ofZ (start .fits .rssi))
 
 encode-requires : tie.Need-encode-requires
 encode-requires c κs = search needs

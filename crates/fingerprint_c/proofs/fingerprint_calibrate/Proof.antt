@@ -16,12 +16,12 @@ enum-known-k c = search needs
 
 returns : tie.Need-returns
 returns c =
-    let e = sym (c .before .next .given .1) ∙ c .before .before .before .calibrate .ensures in
+    let e = sym (c .before .next .given .1) ∙ c .before .before .before .calibrate .ensures .0 in
     (ap calibratedNumber e, ap (standing (c .before .before .before .before .args .b)) e)
 
 returns-2 : tie.Need-returns-2
 returns-2 c =
-    let e = sym (c .before .k .given .1) ∙ c .before .before .before .calibrate .ensures in
+    let e = sym (c .before .k .given .1) ∙ c .before .before .before .calibrate .ensures .0 in
     (ap calibratedNumber e, ap (standing (c .before .before .before .before .args .b)) e)
 
 pub fingerprint-calibrate-spec : {M : Type 1} → statement M

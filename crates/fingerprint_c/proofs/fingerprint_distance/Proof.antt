@@ -13,7 +13,7 @@ as-number-requires c κs = search needs
 
 returns : tie.Need-returns
 returns c =
-    let e = c .before .distance .ensures in
+    let e = c .before .distance .ensures .0 in
     (c .as-number .ensures .0 ∙ ap readingNumber e, c .as-number .ensures .1 ∙ ap valueOf e)
 
 pub fingerprint-distance-spec : {M : Type 1} → statement M

@@ -6,7 +6,7 @@ use borrow.Author.Needs.{needs}
 use lib.ListN.{length}
 use mir.Syntax.{w8}
 use mir.Facts.{toZ-ofZ}
-use Rattle.csi_stream.proofs.Answers.{tests, accepted, not-accepted}
+use Rattle.csi_stream.proofs.Answers.{tests, accepted, not-accepted, decoded-number}
 use Rattle.csi_stream.proofs.Sample.decode.Statement.{statement}
 use Rattle.csi_stream.proofs.Sample.decode.Tie as tie
 
@@ -39,12 +39,14 @@ returns : tie.Need-returns
 returns c =
     let t = c .before .before .before .before .before .before in
     let called = c .before .before .before .byte-to-i8 in
-    accepted (t .before .before .before .args .bytes .now) _ _ (sym (t .before .is-legal .ensures) ∙ t .if1 .taken)
+    let bytes = t .before .before .before .args .bytes .now in
+    decoded-number bytes _
+    (accepted bytes _ _ (sym (t .before .is-legal .ensures) ∙ t .if1 .taken)
     (c .before .before .before .before .before .u64-at .ensures)
-    (toZ-ofZ {w = w8} {z = called .result} (record { sfits = called .ok }) ∙ called .ensures)
+    (toZ-ofZ {w = w8} {z = called .result} (record { sfits = called .ok }) ∙ called .ensures))
 
 returns-2 : tie.Need-returns-2
-returns-2 c = not-accepted (c .before .before .before .args .bytes .now) (sym (c .before .is-legal .ensures) ∙ c .if1 .left)
+returns-2 c = let bytes = c .before .before .before .args .bytes .now in decoded-number bytes _ (not-accepted bytes (sym (c .before .is-legal .ensures) ∙ c .if1 .left))
 
 pub decode-spec : {M : Type 1} → statement M
 decode-spec =

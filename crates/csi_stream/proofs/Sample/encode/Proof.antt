@@ -6,19 +6,19 @@ use mathlib.Core.List.{List, _++_}
 use lib.ListN.{length, drop}
 use Rattle.csi_stream.specs.Wire.{encoded}
 use Rattle.num.proofs.Parts.{front-twice}
-use Rattle.csi_stream.proofs.Answers.{many, short, written}
+use Rattle.csi_stream.proofs.Answers.{many, short, written, encoded-number}
 use borrow.Author.Needs.{needs}
 use Rattle.csi_stream.proofs.Sample.encode.Statement.{statement}
 use Rattle.csi_stream.proofs.Sample.encode.Tie as tie
 
 returns : tie.Need-returns
-returns c = let a = c .before .before .before .args in many (a .self) (a .iq .now) (a .out .now) (c .if1 .taken)
+returns c = let a = c .before .before .before .args in encoded-number _ _ _ (many (a .self) (a .iq .now) (a .out .now) (c .if1 .taken))
 
 add-total : tie.Need-add-total
 add-total c = search needs
 
 returns-2 : tie.Need-returns-2
-returns-2 c = let a = c .before .before .before .before .args in short (a .self) (a .iq .now) (a .out .now) (c .before .if1 .left) (c .if2 .taken)
+returns-2 c = let a = c .before .before .before .before .args in encoded-number _ _ _ (short (a .self) (a .iq .now) (a .out .now) (c .before .if1 .left) (c .if2 .taken))
 
 cast-header : tie.Need-cast-header
 cast-header c = search needs
@@ -56,7 +56,7 @@ returns-3 c =
     let a = called .before .before .before .before .before .args in
     let w = written (a .self) (a .iq .now) (a .out .now) (called .before .before .if1 .left) (called .before .if2 .left) in
     let size : length h ≡ 13 = ap length (called .header .ensures) in
-    let o : first .last .1 .0 ≡ h ++ drop 13 (a .out .now) = first .ensures ∙ ap (λ (n : ℕ). h ++ drop n (a .out .now)) size in (
+    let o : first .last .1 .0 ≡ h ++ drop 13 (a .out .now) = first .ensures ∙ ap (λ (n : ℕ). h ++ drop n (a .out .now)) size in encoded-number _ _ _ (
       w .0,
       front-twice 13 h (a .iq .now) (a .out .now) (first .last .1 .0) (c .before .before .put2 .last .1 .0) size o (c .before .before .put2 .ensures)
           ∙ ap (λ (l : List ℕ). (l ++ a .iq .now) ++ drop (13 + length (a .iq .now)) (a .out .now)) (called .header .ensures)

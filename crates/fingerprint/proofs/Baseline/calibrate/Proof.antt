@@ -5,7 +5,7 @@ use native.Mathlib.Omega.{arith}
 use borrow.Author.Needs.{needs}
 use Rattle.fingerprint.specs.Baseline.{good}
 use Rattle.fingerprint.specs.declared.Calibrated.{Calibrated}
-use Rattle.fingerprint.proofs.Answers.{bad, many, empty, full, taken}
+use Rattle.fingerprint.proofs.Answers.{bad, many, empty, full, taken, calibrate-number}
 use Rattle.fingerprint.proofs.Good.{facts}
 use Rattle.fingerprint.proofs.Baseline.calibrate.Statement.{statement}
 use Rattle.fingerprint.proofs.Baseline.calibrate.Tie as tie
@@ -23,17 +23,17 @@ cast-if2 c = search needs
 returns : tie.Need-returns
 returns c =
     let t = c .before .before in let a = t .before .before .args in
-    many (a .self) (a .features) (is-good-in t) (c .if2 .taken) .0
+    calibrate-number (a .self) (a .features) _ (many (a .self) (a .features) (is-good-in t) (c .if2 .taken) .0)
 
 returns-2 : tie.Need-returns-2
 returns-2 c =
     let s = c .before .before in let t = s .before .before in let a = t .before .before .args in
-    empty (a .self) (a .features) (is-good-in t) (s .if2 .left) (c .if3 .taken) .0
+    calibrate-number (a .self) (a .features) _ (empty (a .self) (a .features) (is-good-in t) (s .if2 .left) (c .if3 .taken) .0)
 
 returns-3 : tie.Need-returns-3
 returns-3 c =
     let n = c .before .before in let s = n .before .before in let t = s .before .before in let a = t .before .before .args in
-    full (a .self) (a .features) (is-good-in t) (s .if2 .left) (n .if3 .left) (c .if4 .taken)
+    calibrate-number (a .self) (a .features) _ (full (a .self) (a .features) (is-good-in t) (s .if2 .left) (n .if3 .left) (c .if4 .taken))
 
 calibrate-requires : tie.Need-calibrate-requires
 calibrate-requires c κs =
@@ -43,12 +43,13 @@ calibrate-requires c κs =
 returns-4 : tie.Need-returns-4
 returns-4 c =
     let u = c .before in let n = u .before .before in let s = n .before .before in let t = s .before .before in let a = t .before .before .args in
-    ap Calibrated.Baseline (c .calibrate .ensures .0) ∙ taken (a .self) (a .features) (is-good-in t) (s .if2 .left) (n .if3 .left) (u .if4 .left)
+    calibrate-number (a .self) (a .features) _
+    (ap Calibrated.Baseline (c .calibrate .ensures .0) ∙ taken (a .self) (a .features) (is-good-in t) (s .if2 .left) (n .if3 .left) (u .if4 .left))
 
 returns-5 : tie.Need-returns-5
 returns-5 c =
     let g = c .before in let a = g .before .args in
-    bad (a .self) (a .features) (sym (g .is-good .ensures) ∙ c .if1 .left) .0
+    calibrate-number (a .self) (a .features) _ (bad (a .self) (a .features) (sym (g .is-good .ensures) ∙ c .if1 .left) .0)
 
 pub calibrate-spec : {M : Type 1} → statement M
 calibrate-spec =

@@ -21,10 +21,10 @@ refusal-requires : tie.Need-refusal-requires
 refusal-requires c κs = search needs
 
 returns : tie.Need-returns
-returns c = no-sample (c .before .before .before .before .before .args .body .now) _ (sym (c .before .before .before .decode .ensures) ∙ c .before .number .given .1)
+returns c = no-sample (c .before .before .before .before .before .args .body .now) _ (sym (c .before .before .before .decode .ensures .0) ∙ c .before .number .given .1)
 
 returns-2 : tie.Need-returns-2
-returns-2 c = a-sample (c .before .before .before .before .before .before .args .body .now) _ _ _ (sym (c .before .before .before .before .decode .ensures) ∙ c .before .before .sample .given .1) (c .refusal .ensures)
+returns-2 c = a-sample (c .before .before .before .before .before .before .args .body .now) _ _ _ (sym (c .before .before .before .before .decode .ensures .0) ∙ c .before .before .sample .given .1) (c .refusal .ensures)
 
 pub bytes-refusal-spec : {M : Type 1} → statement M
 bytes-refusal-spec =
