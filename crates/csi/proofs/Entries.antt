@@ -63,18 +63,14 @@ module _ (l : Layout) where
       (λ (i : k < n1). omega (arith, first k i, u .end))
       (λ i. omega (arith, second k (omega arith) (omega arith), u .end2))
 
--- ---- the tags as the code tells them apart: tag 0, the rows of the table, and those above
-pub unknown-high : (tag : ℕ) → length layouts < tag → layoutOf tag ≡ layoutOf 0
-unfolding layoutOf layouts
-unknown-high tag h = List·getD-eq-default (layoutOf 0 ∷ layouts) (layoutOf 0) {n = tag} (omega arith)
-
+-- ---- the tags as the code tells them apart
 pub known-by : (tag : ℕ) → 1 ≤ tag → leb tag (length layouts) ≡ known tag
 unfolding known
 known-by tag h = simp (le-leb 1 tag h)
 
 -- one computed test of all layouts for each of the facts
 module _ (tag : ℕ) (e : known tag ≡ true) where
-  in-table : (1 ≤ tag) × (tag ≤ length layouts)
+  pub in-table : (1 ≤ tag) × (tag ≤ length layouts)
   unfolding known
   in-table = let p = both (leb 1 tag) (leb tag (length layouts)) e in (leb-true 1 tag (p .0), leb-true tag (length layouts) (p .1))
 
@@ -90,8 +86,3 @@ module _ (tag : ℕ) (e : known tag ≡ true) where
         end2 = between-le (λ t. layoutOf t .end2) (λ t. layoutOf t .entries) 1 (length layouts) tt tag low high;
         entries = between-le (λ t. layoutOf t .entries) (λ t. maxSubcarriers) 1 (length layouts) tt tag low high;
       }
-
--- document 01's counts
-pub counts : (length (entriesOf (layoutOf 1)) ≡ 52) × (length (entriesOf (layoutOf 2)) ≡ 56) × (length (entriesOf (layoutOf 3)) ≡ 56) × (length (entriesOf (layoutOf 4)) ≡ 64)
-unfolding layouts layoutOf entriesOf upFrom
-counts = (refl, refl, refl, refl)

@@ -1,6 +1,6 @@
 pub mod Answers
 pub mod Entries
 pub mod Padded
-pub mod Ranges
+pub mod Rules
 pub mod Scaled
 pub mod Shape

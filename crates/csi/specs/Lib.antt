@@ -1,3 +1,4 @@
 pub mod Layout
 pub mod Features
 pub mod Digits
+pub mod Rules

@@ -10,7 +10,7 @@ pub fn refusal(len: usize, tag: u8) -> u8
     ensures { λ r. ⌜ r ≡ frameRefusal len tag ⌝ }
 {
     if Layout::is_known(tag) {
-        if len < Layout::of(tag).need() {
+        if len < crate::steps::layout_of(tag).need() {
             return 5;
         }
         return 0;

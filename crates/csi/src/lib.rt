@@ -3,7 +3,7 @@ ghost use mathlib.Core.Path.{_≡_};
 ghost use Prim.Native.Nat.{_-_, _*_, _<_};
 ghost use lib.ListN.{length};
 ghost use Rattle.csi.specs.Features.{normalisedAnswer, refused};
-ghost use Rattle.csi.specs.Layout.{known, layoutOf, entriesOf, needOf};
+ghost use Rattle.csi.specs.Layout.{known, entriesOf, needOf};
 
 mod amplitude;
 pub mod frame;
@@ -78,15 +78,8 @@ impl Layout {
         end2: 64,
         entries: 64,
     };
-    // The layout of a tag that has none.
-    pub const NONE: Layout = Layout {
-        start: 0,
-        end: 0,
-        start2: 0,
-        end2: 0,
-        entries: 0,
-    };
 
+    // Whether a tag has a layout.
     pub fn is_known(tag: u8) -> bool
         ensures { λ r. ⌜ r ≡ known tag ⌝ }
     {
@@ -96,22 +89,8 @@ impl Layout {
         tag as usize <= TAGS
     }
 
-    // The layout of a tag; an unknown one has no entries.
-    pub fn of(tag: u8) -> Self
-        ensures { λ r. ⌜ r ≡ layoutOf tag ⌝ }
-    {
-        if tag == 0 {
-            return Layout::NONE;
-        }
-        let i = (tag - 1) as usize;
-        if TAGS <= i {
-            return Layout::NONE;
-        }
-        LAYOUTS[i]
-    }
-
     // The number of entries in use.
-    pub fn count(self) -> usize
+    pub(crate) fn count(self) -> usize
         ensures { λ r. ⌜ r ≡ length (entriesOf self) ⌝ }
     {
         span(self.start, self.end) + span(self.start2, self.end2)

@@ -1,11 +1,20 @@
 // Calls for the crates above, which have judged their input once.
 ghost use mathlib.Core.Path.{_≡_};
+ghost use mathlib.Core.Bool.{true};
 ghost use Prim.Native.Nat.{_≤_, _<_};
 ghost use lib.ListN.{length, getD};
 ghost use Rattle.csi.specs.Features.{featuresOf, normalisedOf};
-ghost use Rattle.csi.specs.Layout.{maxSubcarriers, entriesOf, frameRefusal};
+ghost use Rattle.csi.specs.Layout.{maxSubcarriers, known, layoutOf, entriesOf, frameRefusal};
 use crate::Features;
 use crate::Layout;
+
+// The layout of a known tag.
+pub fn layout_of(tag: u8) -> Layout
+    requires { ⌜ known tag ≡ true ⌝ }
+    ensures { λ r. ⌜ r ≡ layoutOf tag ⌝ }
+{
+    crate::LAYOUTS[(tag - 1) as usize]
+}
 
 // The k-th entry in use (`Layout::indices`).
 pub fn entry(layout: Layout, k: usize) -> usize
@@ -25,7 +34,7 @@ pub fn features(iq: &[u8], tag: u8) -> Features
     requires { ⌜ frameRefusal (length (now iq)) tag ≡ 0 ⌝ }
     ensures { λ r. ⌜ r ≡ featuresOf (now (iq .entry)) tag ⌝ }
 {
-    let layout = Layout::of(tag);
+    let layout = layout_of(tag);
     let every = crate::amplitude::every(iq, layout.entries as usize);
     crate::moments::picked(&every, layout)
 }

@@ -1,4 +1,5 @@
 pub mod Angle
 pub mod Line
 pub mod Phases
+pub mod Rules
 pub mod Tables

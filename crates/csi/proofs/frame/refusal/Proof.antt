@@ -11,8 +11,8 @@ use Rattle.csi.proofs.frame.refusal.Tie as tie
 is-known-requires : tie.Need-is-known-requires
 is-known-requires c κs = search needs
 
-of-requires : tie.Need-of-requires
-of-requires c κs = search needs
+layout-of-requires : tie.Need-layout-of-requires
+layout-of-requires c κs = sym (c .before .is-known .ensures) ∙ c .if1 .taken
 
 need-requires : tie.Need-need-requires
 need-requires c κs = search needs
@@ -23,7 +23,7 @@ module _ (c : tie.After-need) where
   is-known-in = let t = c .before .before in sym (t .before .is-known .ensures) ∙ t .if1 .taken
 
   need-is : c .need .result ≡ needOf (layoutOf (c .before .before .before .before .args .tag))
-  need-is = c .need .ensures ∙ ap needOf (c .before .of .ensures)
+  need-is = c .need .ensures ∙ ap needOf (c .before .layout-of .ensures)
 
 returns : tie.Need-returns
 returns c =
@@ -42,4 +42,4 @@ returns-3 c =
 
 pub refusal-spec : {M : Type 1} → statement M
 refusal-spec =
-    tie.close (tie.spec is-known-requires of-requires need-requires returns returns-2 returns-3)
+    tie.close (tie.spec is-known-requires layout-of-requires need-requires returns returns-2 returns-3)

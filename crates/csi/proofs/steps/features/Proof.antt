@@ -13,19 +13,19 @@ use Rattle.csi.proofs.Entries.{inside, usable}
 use Rattle.csi.proofs.steps.features.Statement.{statement}
 use Rattle.csi.proofs.steps.features.Tie as tie
 
-of-requires : tie.Need-of-requires
-of-requires c κs = search needs
+layout-of-requires : tie.Need-layout-of-requires
+layout-of-requires c κs = let s = c .before in served (length (s .args .iq .now)) (s .args .tag) (s .pre) .0
 
 cast-every : tie.Need-cast-every
 cast-every c = search needs
 
 -- the layout is usable, and its bytes are there
-module _ (c : tie.After-of) where
-  use-it : Usable (c .of .result)
-  use-it = let s = c .before .before in subst Usable (sym (c .of .ensures)) (usable (s .args .tag) (served (length (s .args .iq .now)) (s .args .tag) (s .pre) .0))
+module _ (c : tie.After-layout-of) where
+  use-it : Usable (c .layout-of .result)
+  use-it = let s = c .before .before in subst Usable (sym (c .layout-of .ensures)) (usable (s .args .tag) (served (length (s .args .iq .now)) (s .args .tag) (s .pre) .0))
 
-  enough : needOf (c .of .result) ≤ length (c .before .before .args .iq .now)
-  enough = let s = c .before .before in omega (arith, ap needOf (c .of .ensures), served (length (s .args .iq .now)) (s .args .tag) (s .pre) .1)
+  enough : needOf (c .layout-of .result) ≤ length (c .before .before .args .iq .now)
+  enough = let s = c .before .before in omega (arith, ap needOf (c .layout-of .ensures), served (length (s .args .iq .now)) (s .args .tag) (s .pre) .1)
 
 every-requires : tie.Need-every-requires
 every-requires c κs = (use-it (c .before) .entries, enough (c .before))
@@ -36,11 +36,11 @@ picked-requires c κs = (use-it (c .before .before .before), search needs)
 returns : tie.Need-returns
 unfolding featuresOf
 returns c =
-    let e = c .before .before in let o = e .before .before in let l = o .of .result in let iq = o .before .before .args .iq .now in
+    let e = c .before .before in let o = e .before .before in let l = o .layout-of .result in let iq = o .before .before .args .iq .now in
     let f = amplitudeAt iq in
     c .picked .ensures
     ∙ ap describe (map-agree (λ k. getD (e .every .result) k 0) f (entriesOf l) (λ k h. e .every .ensures (getD (entriesOf l) k 0) (inside l (use-it o) k h)))
-    ∙ ap (λ m. describe (map f (entriesOf m))) (o .of .ensures)
+    ∙ ap (λ m. describe (map f (entriesOf m))) (o .layout-of .ensures)
 
 pub features-spec : {M : Type 1} → statement M
-features-spec = tie.close (tie.spec of-requires cast-every every-requires picked-requires returns)
+features-spec = tie.close (tie.spec layout-of-requires cast-every every-requires picked-requires returns)

@@ -13,8 +13,8 @@ use Rattle.phase.proofs.Points.{two-points}
 use Rattle.phase.proofs.steps.phases.Statement.{statement}
 use Rattle.phase.proofs.steps.phases.Tie as tie
 
-of-requires : tie.Need-of-requires
-of-requires c κs = search needs
+layout-of-requires : tie.Need-layout-of-requires
+layout-of-requires c κs = let s = c .before in served (length (s .args .iq .now)) (s .args .tag) (s .pre) .0
 
 -- what the caller judged
 judged : (c : tie.Start) → Usable (layoutOf (c .args .tag)) × (2 ≤ length (entriesOf (layoutOf (c .args .tag)))) × (needOf (layoutOf (c .args .tag)) ≤ length (c .args .iq .now))
@@ -25,11 +25,11 @@ judged c =
 angles-requires : tie.Need-angles-requires
 angles-requires c κs =
     let o = c .before in let j = judged (o .before .before) in
-    rw (o .of .ensures) (j .0, j .2, refl)
+    rw (o .layout-of .ensures) (j .0, j .2, refl)
 
 -- the count is that of the layout
 count-is : (c : tie.After-angles2) → c .angles2 .result ≡ length (entriesOf (layoutOf (c .before .before .before .before .args .tag)))
-count-is c = c .angles2 .ensures .0 .0 ∙ ap (λ l. length (entriesOf l)) (c .before .before .of .ensures)
+count-is c = c .angles2 .ensures .0 .0 ∙ ap (λ l. length (entriesOf l)) (c .before .before .layout-of .ensures)
 
 line-off-requires : tie.Need-line-off-requires
 line-off-requires c κs =
@@ -44,9 +44,9 @@ cast-t9 c =
 returns : tie.Need-returns
 returns c =
     let a = c .before .before in let o = a .before .before in let s = o .before .before in
-    frame-phases (s .args .iq .now) (s .args .tag) (o .of .result) (o .of .ensures) (a .angles2 .result) (a .angles2 .ensures .0 .0)
+    frame-phases (s .args .iq .now) (s .args .tag) (o .layout-of .result) (o .layout-of .ensures) (a .angles2 .result) (a .angles2 .ensures .0 .0)
     (a .angles2 .last .1 .1 .0) (c .line-off .result) (drop (a .angles2 .result) (replicate maxSubcarriers (pos 0))) (a .angles2 .ensures .1) (c .line-off .ensures)
 
 pub phases-spec : {M : Type 1} → statement M
 phases-spec =
-    tie.close (tie.spec of-requires angles-requires line-off-requires cast-t9 returns)
+    tie.close (tie.spec layout-of-requires angles-requires line-off-requires cast-t9 returns)

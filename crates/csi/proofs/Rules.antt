@@ -1,6 +1,6 @@
--- An amplitude is at most 724. Assumes nothing.
-use mathlib.Core.List.{List}
-use Prim.Native.Nat.{ℕ, _+_, _*_, _≤_, _<_}
+-- The rules of specs/Rules.antt. Assumes nothing.
+use mathlib.Core.Path.{refl}
+use Prim.Native.Nat.{_+_, _*_, _≤_, _<_}
 use native.Mathlib.Omega.{arith}
 use native.Mathlib.Nat.{mul-le-mul}
 use lib.IntN.{natAbs}
@@ -9,10 +9,16 @@ use Rattle.num.specs.Wrap.{signed8}
 use Rattle.num.proofs.Byte.{byte-le}
 use Rattle.num.proofs.Root.{root-below}
 use Rattle.csi.specs.Features.{amplitudeAt}
+use Rattle.csi.specs.Layout.{layouts, entriesOf, upFrom}
+use Rattle.csi.specs.Rules.{LayoutCounts, AmplitudesAtMost724}
 
-pub amplitude-le : (iq : List ℕ) (k : ℕ) → ((i : ℕ) → getD iq i 0 < 256) → amplitudeAt iq k ≤ 724
+pub layout-counts : LayoutCounts
+unfolding layouts entriesOf upFrom
+layout-counts = refl
+
+pub amplitudes-at-most-724 : AmplitudesAtMost724
 unfolding amplitudeAt
-amplitude-le iq k bytes =
+amplitudes-at-most-724 iq k bytes =
     let re : natAbs (signed8 (getD iq (2 * k) 0)) ≤ 128 = byte-le _ (bytes (2 * k)) in
     let im : natAbs (signed8 (getD iq (2 * k + 1) 0)) ≤ 128 = byte-le _ (bytes (2 * k + 1)) in
     let below : amplitudeAt iq k < 725 = root-below _ 725 (omega (arith, mul-le-mul re re, mul-le-mul im im)) in
