@@ -1,3 +1,4 @@
 pub mod Answers
+pub mod Given
 pub mod Good
 pub mod Ranges
