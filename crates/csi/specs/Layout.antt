@@ -4,11 +4,12 @@ use mathlib.Core.List.{List, [], _∷_, _++_}
 use Prim.Native.Nat.{ℕ, zero, suc, _-_, _*_, _≤_}
 use lib.Dec.{leb, ltb}
 use lib.ListN.{length, getD}
+use Rattle.num.specs.Limits as limits
 use Rattle.csi.specs.declared.Layout.{Layout}
 
 -- the most subcarriers that features hold
 abbrev pub maxSubcarriers : ℕ
-maxSubcarriers = 64
+maxSubcarriers = limits.maxSubcarriers
 
 -- two ranges without their upper ends, of so many entries
 abbrev pub layout : (start end start2 end2 entries : ℕ) → Layout

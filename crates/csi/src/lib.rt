@@ -12,7 +12,7 @@ mod normal;
 pub mod steps;
 
 // The most subcarriers that features hold.
-pub const MAX_SUBCARRIERS: usize = 64;
+pub const MAX_SUBCARRIERS: usize = num::MAX_SUBCARRIERS;
 
 // Which entries of the I/Q bytes carry data: start to end and start2 to end2, without the upper ends. Entry k is the bytes
 // 2k (imaginary) and 2k + 1 (real); `entries` is how many of them the bytes hold.

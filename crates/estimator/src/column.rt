@@ -81,7 +81,7 @@ fn add_column(
     used: usize,
 ) -> usize
     requires { ⌜ (n ≤ 512) × (length (now rows) ≡ ringLength n) × (next < n) × (sc < count) × (count ≤ columns) × Padded n (now a) × Padded n (now b) ⌝ }
-    requires { ⌜ (hi + 1 < n) × (hi + 2 ≤ length (now summed)) × (used < 64) × Within (2000 * used) (now summed) ⌝ }
+    requires { ⌜ (hi + 1 < n) × (hi + 2 ≤ length (now summed)) × (used < columns) × Within (2000 * used) (now summed) ⌝ }
     ensures { λ r. ⌜ Joined (prepared m (series (windowOf next n count (ringRows n columns (now (rows .entry)))) sc)) (hi + 1) used (now (summed .entry)) r (now (summed .exit)) × Padded n (now (a .exit)) × Padded n (now (b .exit)) ⌝ }
 {
     read_front(rows, n, next, count, sc, a);

@@ -6,7 +6,7 @@ ghost use lib.ListN.{length};
 ghost use Rattle.window.specs.Window.{columns, ringRows, windowOf};
 ghost use Rattle.vitals.specs.Band.{usable};
 ghost use Rattle.vitals.specs.Peak.{bestLag};
-ghost use Rattle.vitals.specs.Steps.{Padded, Within};
+ghost use Rattle.vitals.specs.Steps.{Padded, mostSummed, Within};
 ghost use Rattle.estimator.specs.Estimate.{emptyAt, readAt, rhythmOf, columnsOf, estimateOf};
 ghost use Rattle.estimator.specs.Estimator.{dueAt, orOne};
 ghost use Rattle.estimator.specs.State.{legal, ringLength, restedAt, judgedBy};
@@ -46,7 +46,7 @@ fn read_off(
     hi: usize,
     used: usize,
 ) -> Vitals
-    requires { ⌜ (2 ≤ hi) × (hi ≤ 127) × (hi + 1 < length (now summed)) × Within 128000 (now summed) × (1 ≤ used) × (used ≤ 64) × (config .«rate_hz» ≤ 1000) ⌝ }
+    requires { ⌜ (2 ≤ hi) × (hi ≤ 127) × (hi + 1 < length (now summed)) × Within mostSummed (now summed) × (1 ≤ used) × (used ≤ columns) × (config .«rate_hz» ≤ 1000) ⌝ }
     ensures { λ r. ⌜ r ≡ readAt config time lo hi used (now (summed .entry)) (bestLag (now (summed .entry)) hi) ⌝ }
 {
     let best = vitals::steps::peak::best_lag(summed, hi);

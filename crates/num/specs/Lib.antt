@@ -1,4 +1,5 @@
 pub mod Clamp
+pub mod Limits
 pub mod Lists
 pub mod Root
 pub mod Rules

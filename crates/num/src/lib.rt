@@ -9,6 +9,9 @@ ghost use Rattle.num.specs.Wrap.{modZ, wrap16, signed8, signed32};
 
 pub mod steps;
 
+// The most subcarriers of a sample that are in use: features, angles and a window's row have no more entries.
+pub const MAX_SUBCARRIERS: usize = 64;
+
 // ---- the square root
 
 // Less than 1 from the square root of n. A straight line gives four bits of the root from the upper eight of n, and

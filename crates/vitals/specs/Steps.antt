@@ -5,6 +5,7 @@ use Prim.Native.Nat.{ℕ, _+_, _-_, _*_, _/_, _^_, _≤_, min}
 use lib.ListN.{length, take, drop}
 use lib.Seq.{slice}
 use lib.IntN.{ℤ, pos, natAbs, _+ℤ_}
+use Rattle.num.specs.Limits.{maxSubcarriers}
 use Rattle.num.specs.Sum.{sumZ, dotZ}
 use Rattle.vitals.specs.Series.{at}
 use Rattle.vitals.specs.Correlation.{energy, corrOf}
@@ -57,6 +58,10 @@ pub record Padded (n : ℕ) (x : List ℤ) : Type 0 where
   pub long : length x ≡ n + 32
   pub zeros : ZerosFrom n x
   pub samples : Samples x
+
+-- the largest sum of the columns' correlations, each of which is at most 2000
+abbrev pub mostSummed : ℕ
+mostSummed = 2000 * maxSubcarriers
 
 -- no sum is above b in size
 abbrev pub Within : ℕ → List ℤ → Type 0

@@ -5,11 +5,12 @@ use mathlib.Core.Bool.{cond}
 use mathlib.Core.List.{List, [], _∷_, _++_, map}
 use lib.Dec.{ltb}
 use lib.ListN.{length, take, drop, getD}
+use Rattle.num.specs.Limits.{maxSubcarriers}
 use Rattle.window.specs.Words.{words}
 
--- entries in a row
+-- entries in a row: one for each subcarrier
 abbrev pub columns : ℕ
-columns = 64
+columns = maxSubcarriers
 
 -- the most rows that a ring has
 abbrev pub maxRows : ℕ

@@ -4,8 +4,8 @@ ghost use lib.ListN.{length, replicate};
 
 pub mod steps;
 
-// Entries in a row.
-pub const COLUMNS: usize = 64;
+// Entries in a row: one for each subcarrier.
+pub const COLUMNS: usize = num::MAX_SUBCARRIERS;
 
 // The most rows that a ring has.
 pub const MAX_ROWS: usize = 8192;

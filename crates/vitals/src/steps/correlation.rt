@@ -3,11 +3,12 @@ ghost use mathlib.Core.Path.{_≡_};
 ghost use Prim.Native.Nat.{_+_, _-_, _*_, _≤_, _<_};
 ghost use lib.ListN.{length, take};
 ghost use lib.IntN.{pos, negsuc, natAbs, _+ℤ_};
+ghost use Rattle.num.specs.Limits.{maxSubcarriers};
 ghost use Rattle.num.specs.Sum.{dotZ};
 ghost use Rattle.num.specs.Clamp.{clampZ};
 ghost use Rattle.vitals.specs.Correlation as spec;
 ghost use Rattle.vitals.specs.Correlation.{energy, rhoOf, corrOf};
-ghost use Rattle.vitals.specs.Steps.{partOf, Summable, ZerosFrom, Padded, Within, Added, Joined};
+ghost use Rattle.vitals.specs.Steps.{partOf, Summable, ZerosFrom, Padded, mostSummed, Within, Added, Joined};
 
 // ---- sums of 32 products, held in 32 bits
 
@@ -133,7 +134,7 @@ fn corr_at(x: &[i16], n: usize, lag: usize, energy: u64) -> i32
 
 // A sum and one more correlation.
 fn plus_corr(sum: i32, v: i32) -> i32
-    requires { ⌜ (natAbs sum ≤ 128000) × (natAbs v ≤ 2000) ⌝ }
+    requires { ⌜ (natAbs sum ≤ mostSummed) × (natAbs v ≤ 2000) ⌝ }
     ensures { λ r. ⌜ r ≡ sum +ℤ v ⌝ }
 {
     sum + v
@@ -142,7 +143,7 @@ fn plus_corr(sum: i32, v: i32) -> i32
 // The series' correlations added to the sums, for the lags from 1 to `hi` + 1; `used` columns are in the sums.
 fn add_lags(x: &[i16], n: usize, energy: u64, summed: &mut [i32], hi: usize, used: usize)
     requires { ⌜ (n ≤ 512) × (hi + 1 < n) × Padded n (now x) × (energy ≡ spec.energy (take n (now x))) × (1 ≤ energy) × (energy ≤ 549755813888) ⌝ }
-    requires { ⌜ (hi + 2 ≤ length (now summed)) × (used < 64) × Within (2000 * used) (now summed) ⌝ }
+    requires { ⌜ (hi + 2 ≤ length (now summed)) × (used < maxSubcarriers) × Within (2000 * used) (now summed) ⌝ }
     ensures { λ r. ⌜ Added (take n (now (x .entry))) (hi + 1) (now (summed .entry)) (now (summed .exit)) × Within (2000 * (used + 1)) (now (summed .exit)) ⌝ }
 {
     for lag in 1..hi + 2 {
@@ -152,7 +153,7 @@ fn add_lags(x: &[i16], n: usize, energy: u64, summed: &mut [i32], hi: usize, use
 
 // The same of a series that may have no energy: it is then left out. How many columns are in the sums.
 pub fn add_series(x: &[i16], n: usize, summed: &mut [i32], hi: usize, used: usize) -> usize
-    requires { ⌜ (n ≤ 512) × (hi + 1 < n) × Padded n (now x) × (hi + 2 ≤ length (now summed)) × (used < 64) × Within (2000 * used) (now summed) ⌝ }
+    requires { ⌜ (n ≤ 512) × (hi + 1 < n) × Padded n (now x) × (hi + 2 ≤ length (now summed)) × (used < maxSubcarriers) × Within (2000 * used) (now summed) ⌝ }
     ensures { λ r. ⌜ Joined (take n (now (x .entry))) (hi + 1) used (now (summed .entry)) r (now (summed .exit)) ⌝ }
 {
     let energy = energy_of(x, n);

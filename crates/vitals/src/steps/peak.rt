@@ -7,7 +7,7 @@ ghost use lib.Signed.{leZ};
 ghost use Rattle.vitals.specs.Series.{at};
 ghost use Rattle.vitals.specs.Peak as spec;
 ghost use Rattle.vitals.specs.Peak.{isPeak, peakOr, floorOf, bestLag};
-ghost use Rattle.vitals.specs.Steps.{Within};
+ghost use Rattle.vitals.specs.Steps.{mostSummed, Within};
 
 // Whether the value at `k` is at least `y`.
 fn reaches(summed: &[i32], k: usize, y: i32) -> bool
@@ -77,7 +77,7 @@ fn first_peak(summed: &[i32], hi: usize, floor: i32, top: usize) -> usize
 
 // What a peak has to reach.
 fn floor_of(global: i32) -> i32
-    requires { ⌜ natAbs global ≤ 128000 ⌝ }
+    requires { ⌜ natAbs global ≤ mostSummed ⌝ }
     ensures { λ r. ⌜ r ≡ floorOf global ⌝ }
 {
     if global > 0 {
@@ -89,7 +89,7 @@ fn floor_of(global: i32) -> i32
 
 // The lag that the rate is read from.
 pub fn best_lag(summed: &[i32], hi: usize) -> usize
-    requires { ⌜ (2 ≤ hi) × (hi + 1 < length (now summed)) × Within 128000 (now summed) ⌝ }
+    requires { ⌜ (2 ≤ hi) × (hi + 1 < length (now summed)) × Within mostSummed (now summed) ⌝ }
     ensures { λ r. ⌜ (r ≡ bestLag (now (summed .entry)) hi) × (2 ≤ r) × (r ≤ hi) ⌝ }
 {
     let top = highest(summed, hi);

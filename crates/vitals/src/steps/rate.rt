@@ -4,7 +4,9 @@ ghost use Prim.Native.Nat.{_+_, _-_, _*_, _≤_, _<_};
 ghost use lib.IntN.{pos, negsuc, natAbs, _-ℤ_, _*ℤ_};
 ghost use lib.Signed.{quotZ};
 ghost use Rattle.num.specs.Clamp.{clampZ};
+ghost use Rattle.num.specs.Limits.{maxSubcarriers};
 ghost use Rattle.vitals.specs.Rate.{bend, vertex, bpmOf, confidenceOf, refined, acceptedAt};
+ghost use Rattle.vitals.specs.Steps.{mostSummed};
 
 // Between -8 and 8.
 fn clamp_8(z: i32) -> i32
@@ -21,15 +23,15 @@ fn clamp_8(z: i32) -> i32
 
 // How the curve through three values bends.
 fn bend_of(a: i32, b: i32, c: i32) -> i32
-    requires { ⌜ (natAbs a ≤ 128000) × (natAbs b ≤ 128000) × (natAbs c ≤ 128000) ⌝ }
-    ensures { λ r. ⌜ (r ≡ bend a b c) × (natAbs r ≤ 512000) ⌝ }
+    requires { ⌜ (natAbs a ≤ mostSummed) × (natAbs b ≤ mostSummed) × (natAbs c ≤ mostSummed) ⌝ }
+    ensures { λ r. ⌜ (r ≡ bend a b c) × (natAbs r ≤ 4 * mostSummed) ⌝ }
 {
     a - 2 * b + c
 }
 
 // (a - c) · 8 / d, for a negative d.
 fn lean(a: i32, c: i32, d: i32) -> i32
-    requires { ⌜ (natAbs a ≤ 128000) × (natAbs c ≤ 128000) × (1 ≤ natAbs d) ⌝ }
+    requires { ⌜ (natAbs a ≤ mostSummed) × (natAbs c ≤ mostSummed) × (1 ≤ natAbs d) ⌝ }
     ensures { λ r. ⌜ r ≡ quotZ ((a -ℤ c) *ℤ pos 8) d ⌝ }
 {
     (a - c) * 8 / d
@@ -37,7 +39,7 @@ fn lean(a: i32, c: i32, d: i32) -> i32
 
 // Where the top of the parabola through three values lies, in sixteenths from the middle one.
 pub fn delta_x16(a: i32, b: i32, c: i32) -> i32
-    requires { ⌜ (natAbs a ≤ 128000) × (natAbs b ≤ 128000) × (natAbs c ≤ 128000) ⌝ }
+    requires { ⌜ (natAbs a ≤ mostSummed) × (natAbs b ≤ mostSummed) × (natAbs c ≤ mostSummed) ⌝ }
     ensures { λ r. ⌜ (r ≡ vertex a b c) × (natAbs r ≤ 8) ⌝ }
 {
     let d = bend_of(a, b, c);
@@ -67,7 +69,7 @@ pub fn bpm_x10(rate: u32, lag_x16: u32) -> u16
 
 // The peak's height for each column that was used, in permille.
 pub fn confidence_of(peak: i32, used: usize) -> u16
-    requires { ⌜ (natAbs peak ≤ 128000) × (1 ≤ used) × (used ≤ 64) ⌝ }
+    requires { ⌜ (natAbs peak ≤ mostSummed) × (1 ≤ used) × (used ≤ maxSubcarriers) ⌝ }
     ensures { λ r. ⌜ r ≡ confidenceOf peak used ⌝ }
 {
     let q = peak / (used as i32);

@@ -4,6 +4,7 @@ use Prim.Native.Nat.{_*_}
 use native.Mathlib.Omega.{arith}
 use borrow.Author.Tests.{eq-eqb, ne-eqb}
 use lib.ListN.{length}
+use Rattle.window.specs.Window.{columns}
 use Rattle.estimator.proofs.Facts.{legal-facts}
 use borrow.Author.Needs.{needs}
 use Rattle.estimator.proofs.VitalsEstimator.new.Statement.{statement}
@@ -22,10 +23,10 @@ mul-if2-2 : tie.Need-mul-if2-2
 mul-if2-2 c = omega (arith, legal-facts (c .before .before .before .before .args .config) (c .before .before .before .before .args .n) (sym (c .before .is-legal .ensures) ∙ c .if1 .taken))
 
 returns : tie.Need-returns
-returns c = rw (sym (c .before .before .is-legal .ensures) ∙ c .before .if1 .taken, eq-eqb (length (c .before .before .before .before .before .args .rows .now)) (2 * (c .before .before .before .before .before .args .n * 64)) (c .if2 .taken), c .before .before .before .new-state .ensures)
+returns c = rw (sym (c .before .before .is-legal .ensures) ∙ c .before .if1 .taken, eq-eqb (length (c .before .before .before .before .before .args .rows .now)) (2 * (c .before .before .before .before .before .args .n * columns)) (c .if2 .taken), c .before .before .before .new-state .ensures)
 
 returns-2 : tie.Need-returns-2
-returns-2 c = rw (sym (c .before .before .is-legal .ensures) ∙ c .before .if1 .taken, ne-eqb (length (c .before .before .before .before .before .args .rows .now)) (2 * (c .before .before .before .before .before .args .n * 64)) (c .if2 .left), c .before .before .before .new-state .ensures)
+returns-2 c = rw (sym (c .before .before .is-legal .ensures) ∙ c .before .if1 .taken, ne-eqb (length (c .before .before .before .before .before .args .rows .now)) (2 * (c .before .before .before .before .before .args .n * columns)) (c .if2 .left), c .before .before .before .new-state .ensures)
 
 returns-3 : tie.Need-returns-3
 returns-3 c = rw (sym (c .before .is-legal .ensures) ∙ c .if1 .left, c .before .before .new-state .ensures)

@@ -1,4 +1,4 @@
--- `floor_of` meets its contract: with a value of at most 128,000 no step leaves 32 bits. Assumes nothing.
+-- `floor_of` meets its contract: of a sum over the columns no step leaves 32 bits. Assumes nothing.
 use mir.Facts.{toZ-ofZ}
 use Rattle.num.proofs.Abs.{abs-mul, abs-quot, sub-fits, mul-fits, quot-fits}
 use Rattle.num.proofs.Read.{read-abs}

@@ -3,12 +3,13 @@ use mir.Facts.{toZ-ofZ}
 use Rattle.num.proofs.Abs.{abs-add, abs-sub, abs-mul, add-fits, sub-fits, mul-fits}
 use Rattle.num.proofs.Read.{read-abs}
 use mathlib.Core.Path.{_≡_, refl}
-use Prim.Native.Nat.{_≤_}
+use Prim.Native.Nat.{_*_, _≤_}
 use native.Mathlib.Omega.{arith}
 use lib.IntN.{ℤ, pos, natAbs, _+ℤ_, _-ℤ_, _*ℤ_}
 use mir.Syntax.{w32}
 use mir.Val.{SFits, toZ, ofZ}
 use Rattle.vitals.specs.Rate.{bend}
+use Rattle.vitals.specs.Steps.{mostSummed}
 use Rattle.vitals.proofs.steps.rate.bend_of.Statement.{statement}
 use Rattle.vitals.proofs.steps.rate.bend_of.Tie as tie
 
@@ -25,13 +26,13 @@ module _ (start : tie.Start) where
   fits-twice : SFits w32 (pos 2 *ℤ b)
   fits-twice = mul-fits (pos 2) b (omega arith)
 
-  size : natAbs (a -ℤ pos 2 *ℤ b) ≤ 384000
+  size : natAbs (a -ℤ pos 2 *ℤ b) ≤ 3 * mostSummed
   size = omega (arith, abs-sub a (pos 2 *ℤ b), abs-mul (pos 2) b)
 
   fits-diff : SFits w32 (a -ℤ pos 2 *ℤ b)
   fits-diff = sub-fits a (pos 2 *ℤ b) (omega (arith, abs-mul (pos 2) b))
 
-  size-bend : natAbs (bend a b c) ≤ 512000
+  size-bend : natAbs (bend a b c) ≤ 4 * mostSummed
   size-bend = omega (arith, abs-add (a -ℤ pos 2 *ℤ b) c, size)
 
   fits-bend : SFits w32 (bend a b c)

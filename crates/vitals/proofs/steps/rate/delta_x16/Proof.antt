@@ -15,6 +15,7 @@ use Rattle.num.proofs.Clamp.{clamp-size}
 use Rattle.num.proofs.Cond.{cond-holds}
 use Rattle.vitals.specs.Rate.{bend, vertex}
 use borrow.Author.Needs.{needs, sfits-of}
+use Rattle.vitals.specs.Steps.{mostSummed}
 use Rattle.vitals.proofs.steps.rate.delta_x16.Statement.{statement}
 use Rattle.vitals.proofs.steps.rate.delta_x16.Tie as tie
 
@@ -32,10 +33,10 @@ sized : (a b c : ℤ) {r : ℤ} → r ≡ vertex a b c → (r ≡ vertex a b c) 
 sized a b c e = (e, rw e (vertex-size a b c))
 
 -- what the two calls say of values that came in
-seen : (a b c r : ℤ) → natAbs a ≤ 128000 → natAbs b ≤ 128000 → natAbs c ≤ 128000 → r ≡ bend (toZ w32 (ofZ w32 a)) (toZ w32 (ofZ w32 b)) (toZ w32 (ofZ w32 c)) → r ≡ bend a b c
+seen : (a b c r : ℤ) → natAbs a ≤ mostSummed → natAbs b ≤ mostSummed → natAbs c ≤ mostSummed → r ≡ bend (toZ w32 (ofZ w32 a)) (toZ w32 (ofZ w32 b)) (toZ w32 (ofZ w32 c)) → r ≡ bend a b c
 seen a b c r ha hb hc e = e ∙ rw (read-abs w32 a (omega arith), read-abs w32 b (omega arith), read-abs w32 c (omega arith))
 
-leant : (a c d r : ℤ) {y : ℤ} → natAbs a ≤ 128000 → natAbs c ≤ 128000 → y ≡ d → r ≡ quotZ ((toZ w32 (ofZ w32 a) -ℤ toZ w32 (ofZ w32 c)) *ℤ pos 8) y → r ≡ quotZ ((a -ℤ c) *ℤ pos 8) d
+leant : (a c d r : ℤ) {y : ℤ} → natAbs a ≤ mostSummed → natAbs c ≤ mostSummed → y ≡ d → r ≡ quotZ ((toZ w32 (ofZ w32 a) -ℤ toZ w32 (ofZ w32 c)) *ℤ pos 8) y → r ≡ quotZ ((a -ℤ c) *ℤ pos 8) d
 leant a c d r ha hc q e = e ∙ rw (read-abs w32 a (omega arith), read-abs w32 c (omega arith), q)
 
 bend-of-requires : tie.Need-bend-of-requires

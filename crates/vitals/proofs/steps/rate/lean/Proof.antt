@@ -3,13 +3,14 @@ use mir.Facts.{toZ-ofZ}
 use Rattle.num.proofs.Abs.{sfits-abs, abs-sub, abs-mul, abs-quot-le, sub-fits, mul-fits}
 use Rattle.num.proofs.Read.{read-abs}
 use mathlib.Core.Path.{_≡_}
-use Prim.Native.Nat.{_≤_}
+use Prim.Native.Nat.{_*_, _≤_}
 use native.Mathlib.Omega.{arith}
 use lib.IntN.{ℤ, pos, natAbs, _-ℤ_, _*ℤ_}
 use lib.Signed.{quotZ}
 use mir.Syntax.{w32}
 use mir.Val.{SFits, toZ, ofZ}
 use Rattle.num.proofs.Divisor.{bits-pos}
+use Rattle.vitals.specs.Steps.{mostSummed}
 use Rattle.vitals.proofs.steps.rate.lean.Statement.{statement}
 use Rattle.vitals.proofs.steps.rate.lean.Tie as tie
 
@@ -23,7 +24,7 @@ module _ (start : tie.Start) where
   abbrev d : ℤ
   d = start .args .d
 
-  size : natAbs ((a -ℤ c) *ℤ pos 8) ≤ 2048000
+  size : natAbs ((a -ℤ c) *ℤ pos 8) ≤ 16 * mostSummed
   size = omega (arith, abs-mul (a -ℤ c) (pos 8), abs-sub a c)
 
   fits-diff : SFits w32 (a -ℤ c)
