@@ -8,8 +8,7 @@ use native.Mathlib.Omega.{arith}
 use borrow.Author.Tests.{eq-eqb, ne-eqb, eqb-false}
 use lib.Dec.{eqb, ltb}
 use lib.ListN.{length}
-use Rattle.window.specs.Window.{pushRow, width}
-use Rattle.window.proofs.View.{Long}
+use Rattle.window.specs.Window.{pushRow, width, Long}
 use Rattle.window.proofs.Pushed.{length-push, long-push}
 use Rattle.detector.specs.Decision.{presentAfter, lastAfter}
 use Rattle.detector.specs.Detector.{Detector, newDetector, judged, changed, withFrame, pushFrame}

@@ -11,11 +11,11 @@ use lib.ListN.{length, take, drop, getD, set}
 use lib.Seq.{length-take-le, take-at}
 use lib.Dec.{eqb, ltb}
 use borrow.Author.Tests.{lt-ltb, le-ltb, eq-eqb, ne-eqb}
-use Rattle.window.specs.Window.{maxRows, ringRows, pushRow, windowOf, overwrite, nextSlot, filledAfter, width}
+use Rattle.window.specs.Window.{maxRows, ringRows, pushRow, windowOf, overwrite, nextSlot, filledAfter, width, Long}
 use Rattle.window.specs.Sums.{Ring}
 use Rattle.window.specs.Words.{words}
 use Rattle.window.proofs.Rows.{length-cut}
-use Rattle.window.proofs.View.{Long, window-push, window-none, window-width, length-window}
+use Rattle.window.proofs.View.{window-push, window-none, window-width, length-window}
 use Rattle.window.proofs.Mean.{ring-long}
 use Rattle.detector.specs.Decision.{presentAfter, lastAfter, verdictAt}
 use Rattle.detector.specs.State.{Placed, keptState, restartedState, countChanged, startState, nextState, judgedState, settledState}

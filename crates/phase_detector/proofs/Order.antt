@@ -3,7 +3,7 @@
 use mathlib.Core.Path.{_≡_}
 use mathlib.Core.List.{List, List·Permᴰ}
 use Prim.Native.Nat.{ℕ}
-use Rattle.window.proofs.View.{Long}
+use Rattle.window.specs.Window.{Long}
 use Rattle.window.proofs.Mean.{mean-no-order}
 use Rattle.vectors.specs.Vector.{columnPpm}
 use Rattle.phase_detector.specs.Wander.{angles, windowPpm}

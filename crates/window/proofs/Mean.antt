@@ -7,11 +7,11 @@ use native.Mathlib.Numerals.{add-one}
 use native.Mathlib.Omega.{arith}
 use lib.ListN.{length, getD}
 use Rattle.window.specs.Words.{words}
-use Rattle.window.specs.Window.{windowOf, ringRows, width}
+use Rattle.window.specs.Window.{windowOf, ringRows, width, Long}
 use Rattle.window.specs.Sums.{Summing, Lawful, Ring, columnSum, sumTo, carriedMean, windowMean}
 use Rattle.window.proofs.Rows.{length-cut}
 use Rattle.window.proofs.Ring.{length-ring-row}
-use Rattle.window.proofs.View.{Long, column-perm, window-total, window-width, length-window}
+use Rattle.window.proofs.View.{column-perm, window-total, window-width, length-window}
 
 pub sumTo-more : (n : ℕ) (g : ℕ → ℕ) → sumTo (n + 1) g ≡ sumTo n g + g n
 unfolding sumTo

@@ -4,8 +4,8 @@ use mathlib.Core.List.{List, [], _∷_, _++_}
 use Prim.Native.Nat.{ℕ, zero, suc, _+_, _-_, _≤_, min}
 use native.Mathlib.Omega.{arith}
 use lib.ListN.{length, length-append, length-drop}
-use Rattle.window.specs.Window.{pushRow}
-use Rattle.window.proofs.View.{Long, long-drop, long-append}
+use Rattle.window.specs.Window.{pushRow, Long}
+use Rattle.window.proofs.View.{long-drop, long-append}
 
 module _ (w : ℕ) (window : List (List ℕ)) (row : List ℕ) where
   pub length-push : length window ≤ w → length (pushRow w window row) ≡ min w (length window + 1)

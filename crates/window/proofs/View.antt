@@ -10,7 +10,7 @@ use native.Mathlib.Omega.{arith}
 use lib.ListN.{length, take, drop, getD, set, length-set, length-map, length-append, length-take, length-drop, take-append-drop, drop-of-length-le}
 use lib.Seq.{getD-take, getD-drop, take-nil, length-take-le, drop-cons, drop-set-lt, take-suc-set, take-all, drop-append-le, drop-drop}
 use Rattle.num.proofs.Lists.{drop-map}
-use Rattle.window.specs.Window.{column, pushRow, windowOf, nextSlot, filledAfter}
+use Rattle.window.specs.Window.{column, pushRow, windowOf, nextSlot, filledAfter, Long}
 use Rattle.window.specs.Sums.{Summing, Lawful, columnSum}
 use Rattle.window.proofs.Totals.{total-perm}
 
@@ -121,10 +121,6 @@ module _ (S : Summing) (lawful : Lawful S) (f : ℕ → S .Number) where
       rw (column-taken n sc (drop (length rows - w) (rotated next rows)) h, all)
       (column-perm S lawful f (List·Permᴰ·append-comm (drop next rows) (take next rows)) sc
       ∙ ap (λ (l : List (List ℕ)). columnSum S f l sc) (take-append-drop next rows))
-
--- each row has c entries
-abbrev pub Long : ℕ → List (List ℕ) → Type 0
-Long c rows = (i : ℕ) → i < length rows → length (getD rows i []) ≡ c
 
 pub long-drop : (c k : ℕ) (rows : List (List ℕ)) → Long c rows → Long c (drop k rows)
 long-drop c k rows long i h = rw (getD-drop k rows i []) (long (k + i) (omega (arith, length-drop k rows)))

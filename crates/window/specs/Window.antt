@@ -1,6 +1,7 @@
 -- A window: the last rows of a detector, oldest first, and the ring in memory that shows it (csi.rs and phase.rs, `ring`, `next`, `filled`;
 -- vitals.rs likewise). A row is the list of its entries. Assumes nothing.
-use Prim.Native.Nat.{ℕ, zero, suc, _+_, _-_, _/_, _%_, min}
+use mathlib.Core.Path.{_≡_}
+use Prim.Native.Nat.{ℕ, zero, suc, _+_, _-_, _/_, _%_, _<_, min}
 use mathlib.Core.Bool.{cond}
 use mathlib.Core.List.{List, [], _∷_, _++_, map}
 use lib.Dec.{ltb}
@@ -30,6 +31,10 @@ column rows sc = map (λ (row : List ℕ). getD row sc 0) rows
 -- the entries of a window's rows
 abbrev pub width : List (List ℕ) → ℕ
 width window = length (getD window 0 [])
+
+-- each row has c entries
+abbrev pub Long : ℕ → List (List ℕ) → Type 0
+Long c rows = (i : ℕ) → i < length rows → length (getD rows i []) ≡ c
 
 -- one row more, and the oldest gone where there were w
 unfoldable pub pushRow : ℕ → List (List ℕ) → List ℕ → List (List ℕ)
