@@ -120,7 +120,22 @@ module _ (σ : Settings) (s : RoomState) (rows body rows₁ rows₂ : List ℕ) 
             }
 
         pub feeds : Feeds σ s rows body (toldBy w t (f .fall) distance) (stateBy (s .tag) (s .baseline) w t (f .words)) rows₂
-        feeds = record { finds = finds; held = held; tag = refl; good = after-good; long = ht .long ∙ hw .long }
+        feeds =
+            record {
+              finds = finds;
+              held = held;
+              tag = refl;
+              good = after-good;
+              long = ht .long ∙ hw .long;
+              windows = w;
+              rhythms = t;
+              fallen = f;
+              between = rows₁;
+              in-windows = hw;
+              in-rhythms = ht;
+              falls = hf;
+              state = refl;
+            }
 
 -- the same, of numbers that are those of the sample
 module _ (σ : Settings) (s : RoomState) (rows body rows₁ rows₂ : List ℕ) (w : Windows) (t : Rhythms) (f : Features) (a : Phases) (time : ℕ)

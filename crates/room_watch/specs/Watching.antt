@@ -20,6 +20,7 @@ use Rattle.estimator.specs.declared.steps.Stepped.{Stepped}
 use Rattle.detector.specs.declared.Verdict.{Verdict}
 use Rattle.detector.specs.Verdict.{eitherOf}
 use Rattle.csi.specs.declared.Features.{Features}
+use Rattle.phase.specs.Phases.{framePhases}
 use Rattle.phase.specs.declared.Phases.{Phases}
 use Rattle.fingerprint.specs.declared.Baseline.{Baseline}
 use Rattle.fall.specs.Fall.{stepOf, silent}
@@ -29,7 +30,7 @@ use Rattle.fall_words.specs.Stored.{phaseOf, legal}
 use Rattle.fall_words.specs.declared.Words.{Words}
 use Rattle.room_memory.specs.declared.RoomState.{RoomState}
 use Rattle.room_sensing.specs.Answers.{rateOf}
-use Rattle.room_sensing.specs.Sensing.{watch, watchedFinds, isWarming, isFall}
+use Rattle.room_sensing.specs.Sensing.{tagOf, timeOf, iqOf, featuresIn, watch, watchedFinds, isWarming, isFall}
 use Rattle.room_sensing.specs.declared.settings.Settings.{Settings}
 use Rattle.room_sensing.specs.declared.answer.Watched.{Watched}
 use Rattle.room_state.specs.Rings.{ringsOf, withPresence, withPhase, withBreathing, withHeart}
@@ -82,14 +83,6 @@ module _ (σ : Settings) where
     pub phase : ringsOf σ rows′ .phase ≡ ringsOf σ rows .phase
     pub long : length rows′ ≡ length rows
 
-  -- A watched sample that its bytes do not refuse, fed to all detectors: what is found, and what state and rows then hold.
-  pub record Feeds (s : RoomState) (rows body : List ℕ) (found : Watched) (s′ : RoomState) (rows′ : List ℕ) : Type 0 where
-    pub finds : found ≡ watchedFinds σ (heldIn σ s (ringsOf σ rows)) body
-    pub held : heldIn σ s′ (ringsOf σ rows′) ≡ watch σ (heldIn σ s (ringsOf σ rows)) body
-    pub tag : s′ .tag ≡ s .tag
-    pub good : GoodState σ s′ (ringsOf σ rows′)
-    pub long : length rows′ ≡ length rows
-
 -- the fall machine after the verdict and the wander of presence
 abbrev pub steppedBy : FallConfig → Words → Verdict → (wander time : ℕ) → fall.Stepped
 steppedBy c words v wander time = cond (isWarming v) (silent (phaseOf words)) (stepOf c (phaseOf words) wander time)
@@ -128,3 +121,20 @@ stateBy tag b w t words =
       baseline = b;
       fall = words;
     }
+
+-- A watched sample that its bytes do not refuse, fed to all detectors: what is found, and what state and rows then hold, what they mean and every number
+-- of them. Presence and phase come first; `between` is what the rows hold behind these.
+pub record Feeds (σ : Settings) (s : RoomState) (rows body : List ℕ) (found : Watched) (s′ : RoomState) (rows′ : List ℕ) : Type 0 where
+  pub finds : found ≡ watchedFinds σ (heldIn σ s (ringsOf σ rows)) body
+  pub held : heldIn σ s′ (ringsOf σ rows′) ≡ watch σ (heldIn σ s (ringsOf σ rows)) body
+  pub tag : s′ .tag ≡ s .tag
+  pub good : GoodState σ s′ (ringsOf σ rows′)
+  pub long : length rows′ ≡ length rows
+  pub windows : Windows
+  pub rhythms : Rhythms
+  pub fallen : Fallen
+  pub between : List ℕ
+  pub in-windows : InWindows σ (s .presence) (s .phase) rows (featuresIn body) (framePhases (iqOf body) (tagOf body)) (timeOf body) windows between
+  pub in-rhythms : InRhythms σ (s .breathing) (s .heart) (s .«breathing_acc») (s .«heart_acc») between (featuresIn body) (timeOf body) rhythms rows′
+  pub falls : Falls (σ .fall) (s .fall) (windows .presence .verdict) (windows .presence .state .wander) (timeOf body) fallen
+  pub state : s′ ≡ stateBy (s .tag) (s .baseline) windows rhythms (fallen .words)
