@@ -2,7 +2,7 @@
 -- 4 to 11 the time, low byte first, 12 the number of I/Q bytes, which follow. Assumes nothing.
 use Prim.Native.Nat.{ℕ}
 use mathlib.Core.List.{List, [], _∷_, _++_}
-use lib.ListN.{length, getD}
+use lib.ListN.{length, getD, drop}
 use Rattle.num.specs.Words.{leBytes, leAt}
 use Rattle.num.specs.Wrap.{modZ, signed8}
 use Rattle.csi_stream.specs.declared.Sample.{Sample}
@@ -24,6 +24,10 @@ headerBytes s n = version ∷ s .layout ∷ modZ (s .rssi) 256 ∷ s .channel �
 -- the sample and its I/Q bytes, as bytes
 unfoldable pub encoded : Sample → List ℕ → List ℕ
 encoded s iq = headerBytes s (length iq) ++ iq
+
+-- the I/Q bytes of a record: those behind its header
+abbrev pub iqOf : List ℕ → List ℕ
+iqOf r = drop headerLen r
 
 -- the sample that a record's header holds
 abbrev pub sampleOf : List ℕ → Sample

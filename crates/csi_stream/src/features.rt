@@ -10,7 +10,7 @@ impl Sample {
         ensures { λ r. ⌜ r ≡ recordFeatures (now (bytes .entry)) ⌝ }
     {
         if crate::wire::is_legal(bytes) {
-            return csi::frame::features(&bytes[crate::HEADER_LEN..], bytes[1]);
+            return csi::frame::features(&bytes[crate::HEADER_LEN..], bytes[crate::TAG_AT]);
         }
         Measured::refused(3)
     }

@@ -1,5 +1,6 @@
 // One channel sample on the wire, version 1 (csi_stream.rs): 13 header bytes, then the I/Q bytes.
 mod features;
+pub mod steps;
 mod wire;
 
 ghost use mathlib.Core.Path.{_≡_};
@@ -12,6 +13,17 @@ pub const VERSION: u8 = 1;
 pub const HEADER_LEN: usize = 13;
 // The most I/Q bytes that a sample carries.
 pub const MAX_IQ: usize = 128;
+
+// Where the header's numbers stand, behind the version: layout tag, signal strength, channel, time, number of I/Q bytes.
+pub(crate) const TAG_AT: usize = 1;
+
+pub(crate) const RSSI_AT: usize = 2;
+
+pub(crate) const CHANNEL_AT: usize = 3;
+
+pub(crate) const TIME_AT: usize = 4;
+
+pub(crate) const COUNT_AT: usize = 12;
 
 // The numbers of one sample. The I/Q bytes are a slice beside it, whose length is the Rust's `len`.
 pub struct Sample {
@@ -43,12 +55,12 @@ impl Sample {
         if wire::is_legal(bytes) {
             return Decoded::Accepted(
                 Sample {
-                    at: num::steps::u64_at(bytes, 4),
-                    rssi: num::byte_to_i8(bytes[2]),
-                    channel: bytes[3],
-                    layout: bytes[1],
+                    at: num::steps::u64_at(bytes, TIME_AT),
+                    rssi: num::byte_to_i8(bytes[RSSI_AT]),
+                    channel: bytes[CHANNEL_AT],
+                    layout: bytes[TAG_AT],
                 },
-                bytes[12],
+                bytes[COUNT_AT],
             );
         }
         Decoded::Refused(3)

@@ -14,7 +14,7 @@ pub(crate) fn is_legal(bytes: &[u8]) -> bool
     if bytes[0] != crate::VERSION {
         return false;
     }
-    let n = bytes[12] as usize;
+    let n = bytes[crate::COUNT_AT] as usize;
     if crate::MAX_IQ < n {
         return false;
     }

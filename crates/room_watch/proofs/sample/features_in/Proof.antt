@@ -1,46 +1,43 @@
 -- `room_watch::sample::features_in` meets its contract. Assumes nothing.
-use Rattle.num.proofs.Parts.{part-lent}
+use mathlib.Core.Path.{_≡_}
+use denote.Ref.{now}
 use Rattle.csi.proofs.Shape.{features-most}
 use Rattle.room_sensing.specs.Sensing.{iqOf, tagOf}
-use Rattle.room_sensing.proofs.Samples.{frame-serves}
+use Rattle.room_sensing.proofs.Samples.{is-sample, frame-serves}
 use borrow.Author.Needs.{needs}
 use Rattle.room_watch.proofs.sample.features_in.Statement.{statement}
 use Rattle.room_watch.proofs.sample.features_in.Tie as tie
 
-shared-slice-read-tag : tie.Need-shared-slice-read-tag
-shared-slice-read-tag c = search needs
+-- what the codec hands back is the sample's I/Q
+behind : (c : tie.After-iq) → now (c .iq .result) ≡ iqOf (c .before .before .args .body .now)
+behind c = let start = c .before .before in c .iq .ensures .accepted (is-sample (start .args .body .now) (start .pre .0)) .bytes
 
-sub-features : tie.Need-sub-features
-sub-features c = search needs
+iq-requires : tie.Need-iq-requires
+iq-requires c κs = search needs
 
-part-features-start : tie.Need-part-features-start
-part-features-start c = search needs
-
-part-features-end : tie.Need-part-features-end
-part-features-end c = search needs
+tag-in-requires : tie.Need-tag-in-requires
+tag-in-requires c κs = search needs
 
 features-requires : tie.Need-features-requires
 features-requires c κs =
-    let start = c .before .before .before in
-    rw (part-lent 13 (start .args .body .now)) (frame-serves (start .args .body .now) (start .pre .0))
+    let start = c .before .before .before in let b = start .args .body .now in
+    rw (c .tag-in .ensures, behind (c .before)) (frame-serves b (start .pre .0))
 
 normalised-requires : tie.Need-normalised-requires
 normalised-requires c κs =
     let start = c .before .before .before .before in let b = start .args .body .now in
-    rw (c .features .ensures, part-lent 13 b) (features-most (iqOf b) (tagOf b) (frame-serves b (start .pre .0)))
+    rw (c .features .ensures, c .before .tag-in .ensures, behind (c .before .before)) (features-most (iqOf b) (tagOf b) (frame-serves b (start .pre .0)))
 
 returns : tie.Need-returns
 returns c =
-    rw (c .normalised .ensures, c .before .features .ensures, part-lent 13 (c .before .before .before .before .before .args .body .now))
+    rw (c .normalised .ensures, c .before .features .ensures, c .before .before .tag-in .ensures, behind (c .before .before .before))
 
 pub features-in-spec : {M : Type 1} → statement M
 features-in-spec =
     tie.close
     (tie.spec
-    shared-slice-read-tag
-    sub-features
-    part-features-start
-    part-features-end
+    iq-requires
+    tag-in-requires
     features-requires
     normalised-requires
     returns)
