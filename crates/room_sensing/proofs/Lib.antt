@@ -1,3 +1,4 @@
+pub mod Table
 pub mod Samples
 pub mod Sensible
 pub mod Judged

@@ -1,6 +1,7 @@
 pub mod Settings
 pub mod Answers
 pub mod Sensing
+pub mod Kinds
 pub mod Rules
 pub mod Runs
 pub mod Bench
