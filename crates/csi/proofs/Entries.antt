@@ -1,7 +1,7 @@
 -- The entries of a layout: how many there are, and which; and the layouts of the tags. Assumes nothing.
 use mathlib.Core.Path.{_≡_, refl, sym, ap, _∙_}
 use mathlib.Core.Bool.{true}
-use mathlib.Core.List.{_∷_, _++_}
+use mathlib.Core.List.{_++_}
 use mathlib.Core.Logic.{by-cases}
 use Prim.Native.Nat.{ℕ, zero, suc, _+_, _-_, _≤_, _<_}
 use native.Mathlib.Nat.{le-of-suc-le-suc, not-suc-le-zero, add-zero}
@@ -9,7 +9,7 @@ use native.Mathlib.Decide.{decLt}
 use native.Mathlib.Omega.{arith}
 use lib.Dec.{leb}
 use borrow.Author.Tests.{le-leb, leb-true}
-use lib.ListN.{length, getD, length-append, List·getD-append, List·getD-eq-default}
+use lib.ListN.{length, getD, length-append, List·getD-append}
 use lib.Seq.{getD-append-add}
 use Rattle.num.proofs.Logic.{both}
 use Rattle.num.proofs.Table.{between-le}

@@ -1,7 +1,6 @@
 -- The words of a state are never refused: they are legal. Assumes nothing.
 use mathlib.Core.Path.{_≡_, refl}
 use mathlib.Core.Bool.{Bool, true, false, cond}
-use Prim.Native.Nat.{ℕ}
 use native.Mathlib.Omega.{arith}
 use Rattle.fall.specs.declared.FallConfig.{FallConfig}
 use Rattle.fall.specs.declared.Phase.{Phase}

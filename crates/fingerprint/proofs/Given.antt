@@ -1,8 +1,8 @@
 -- A baseline as the calls gave it is in range, so that no call refuses it by 2. Assumes nothing.
 use mathlib.Core.Path.{_≡_, sym, ap, _∙_}
 use mathlib.Core.Bool.{Bool, true, cond, not}
-use mathlib.Core.List.{List, [], _∷_}
-use Prim.Native.Nat.{ℕ, _≤_, _<_}
+use mathlib.Core.List.{[], _∷_}
+use Prim.Native.Nat.{ℕ, _≤_}
 use native.Mathlib.Omega.{arith}
 use borrow.Author.Tests.{eqb-false}
 use lib.Dec.{ltb, eqb}
@@ -10,8 +10,8 @@ use Rattle.num.proofs.Cond.{cond-holds}
 use Rattle.num.proofs.Logic.{never}
 use Rattle.csi.specs.Layout.{maxSubcarriers}
 use Rattle.csi.specs.declared.Features.{Features}
-use Rattle.fingerprint.specs.Baseline.{maxFrames, maxVariance, fresh, good, fed, calibratedOf, standing}
-use Rattle.fingerprint.specs.Given.{calibratedBy, Frames, NewIsGood, StaysGood, NeverRefusedBy2}
+use Rattle.fingerprint.specs.Baseline.{maxFrames, maxVariance, fresh, good, calibratedOf, standing}
+use Rattle.fingerprint.specs.Given.{calibratedBy, NewIsGood, StaysGood, NeverRefusedBy2}
 use Rattle.fingerprint.specs.declared.Baseline.{Baseline}
 use Rattle.fingerprint.specs.declared.Calibrated.{Calibrated}
 use Rattle.fingerprint.proofs.Good.{facts, fresh-good, fed-good}

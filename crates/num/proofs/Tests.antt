@@ -1,5 +1,5 @@
 -- Laws of tests that compute: the two answers of a flag, flags of one statement are equal, both of two, every number below a limit. Assumes nothing.
-use mathlib.Core.Path.{_≡_, refl, sym, _∙_}
+use mathlib.Core.Path.{_≡_, refl, sym}
 use mathlib.Core.Bool.{Bool, true, false, _&&_, decide, decide-iff}
 use Prim.Native.Nat.{ℕ, zero, suc, _<_, _≤_}
 use native.Mathlib.Omega.{arith}
@@ -21,10 +21,6 @@ tells-same true true t u = refl
 tells-same false false t u = refl
 tells-same true false t u = sym (u .1 (t .0 refl))
 tells-same false true t u = t .1 (u .0 refl)
-
--- a flag that is not set refutes its statement
-pub tells-not : {P : Type 0} (b : Bool) → Tells b P → b ≡ false → P → ⊥
-tells-not b t e p = never (sym e ∙ t .1 p)
 
 pub tells-iff : {P Q : Type 0} (b : Bool) → (P → Q) → (Q → P) → Tells b P → Tells b Q
 tells-iff b to from t = (λ e. to (t .0 e), λ q. t .1 (from q))

@@ -11,7 +11,7 @@ use Rattle.unit.specs.Sensing.{Sensing, Now}
 use Rattle.unit.specs.Walk.{runOf}
 use Rattle.unit.specs.Room.{Room, newRoom, now, inForce, left, joined, refusalOf, otherTag, roomNext, plain, withNote}
 use Rattle.unit.specs.Calls.{Call, begin, run, ask, beginRefusal, roomAfter, roomThen}
-use Rattle.unit.specs.Places.{Place, roomAt, roomBefore, OnlySamples, SamplesAlone}
+use Rattle.unit.specs.Places.{roomBefore, OnlySamples, SamplesAlone}
 use Rattle.unit.proofs.Walking.{Every, walk-keeps-of}
 use Rattle.unit.proofs.Reached.{now-joined}
 use Rattle.unit.proofs.Boundaries.{in-force-new}

@@ -8,12 +8,12 @@ use mathlib.Core.List.{List, [], _∷_, _++_, foldl}
 use lib.ListN.{length, drop}
 use lib.Dec.{leb, eqb}
 use borrow.Author.Tests.{not-true}
-use Rattle.unit.specs.Records.{Mark, watched, calibrated, Event, took, noted, Record, whole, sample, reset, note, look, Cut, size, cut}
+use Rattle.unit.specs.Records.{Mark, Event, took, noted, Record, whole, sample, reset, note, look, Cut, size, cut}
 use Rattle.unit.specs.Answers.{Answer, refused, told, saidAt}
 use Rattle.unit.specs.Sensing.{Sensing, detect, toCalibrate, calibratedIn, answersTo, Laws}
 use Rattle.unit.specs.Walk.{Walked, walk, before, runOf, shortOf}
-use Rattle.unit.specs.Room.{Room, newRoom, now, inForce, sameTag, otherTag, refusalOf, left, joined, findingOf, releasedBy, roomAnswers, roomNext, plain}
-use Rattle.unit.specs.Places.{Place, past, roomAt, spaceLeft, roomBefore, HasSpace, Boundary, behind-a-reset, at-another-tag, toList, answersBefore, inPlaceOf, spaceAtBoundary, EmptyBehindAReset, OneTagSinceABoundary, CanBeginAnew, withoutLooks, LooksLeaveNoTrace}
+use Rattle.unit.specs.Room.{Room, newRoom, inForce, sameTag, otherTag, refusalOf, left, joined, findingOf, releasedBy, roomAnswers, roomNext, plain}
+use Rattle.unit.specs.Places.{Place, past, roomAt, spaceLeft, roomBefore, Boundary, behind-a-reset, at-another-tag, toList, answersBefore, inPlaceOf, spaceAtBoundary, EmptyBehindAReset, OneTagSinceABoundary, CanBeginAnew, withoutLooks, LooksLeaveNoTrace}
 use Rattle.num.proofs.Logic.{never}
 use Rattle.unit.proofs.Cutting.{whole-of, cut-append, cut-sizes}
 use Rattle.unit.proofs.Walking.{onward, further, go-on, behind, short-none, none-short, walk-cons, walk-append, walk-used, walk-later, walk-state, walk-last}

@@ -8,12 +8,11 @@ use mathlib.Core.List.{List, [], _∷_, _++_}
 use mathlib.Core.Logic.{_⊎_, inl, inr}
 use lib.ListN.{length, drop}
 use lib.Dec.{eqb}
-use borrow.Author.Tests.{eqb-true}
-use Rattle.unit.specs.Records.{Mark, Event, took, noted, Record, whole, sample, reset, note, look, size, cut}
-use Rattle.unit.specs.Answers.{Answer, refused, saidAt}
+use Rattle.unit.specs.Records.{Event, took, noted, Record, whole, sample, reset, note, look, cut}
+use Rattle.unit.specs.Answers.{Answer, saidAt}
 use Rattle.unit.specs.Sensing.{Sensing, toCalibrate, Fits, OfTag, Laws, WarmUp, Warms}
 use Rattle.unit.specs.Walk.{Walked, walk, before, runOf, sixOf, returned, spaceAfter}
-use Rattle.unit.specs.Room.{Room, newRoom, now, inForce, otherTag, refusalOf, left, findingOf, releasedBy, roomAnswers, plain}
+use Rattle.unit.specs.Room.{Room, newRoom, now, inForce, left, findingOf, releasedBy, roomAnswers, plain}
 use Rattle.unit.specs.Calls.{Return, begun, ran, Call, begin, run, roomReturn, roomAfter, returns, roomThen}
 use Rattle.unit.specs.Promises.{Memory, NewMemory, Keeps}
 use Rattle.unit.specs.Demand3

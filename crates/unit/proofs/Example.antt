@@ -1,6 +1,6 @@
 -- A small sensing, memory and unit that meet all that is asked of them, so that demand 3 holds of something; and two runs, computed.
 use mathlib.Core.Path.{_≡_, refl, sym, ap, _∙_}
-use Prim.Native.Nat.{ℕ, _+_, _≤_, min}
+use Prim.Native.Nat.{ℕ, _+_, min}
 use native.Mathlib.Omega.{arith}
 use mathlib.Core.Bool.{Bool, true, false, cond, _&&_}
 use mathlib.Core.Option.{Option, none, some}
@@ -10,7 +10,7 @@ use lib.Dec.{ltb, leb, eqb}
 use borrow.Author.Tests.{eqb-true, ltb-true, ltb-false, lt-ltb, le-ltb}
 use Rattle.unit.specs.Records.{Mark, watched, calibrated, Event, took, noted, kindsFor, Cut, cut, cutF}
 use Rattle.unit.specs.Answers.{refused}
-use Rattle.unit.specs.Sensing.{Sensing, Now, after, counted, count, howMany, detect, Laws, WarmUp, Warms}
+use Rattle.unit.specs.Sensing.{Sensing, Now, after, counted, howMany, detect, Laws, WarmUp, Warms}
 use Rattle.unit.specs.Walk.{Walked, walk, runOf, returned, spaceAfter}
 use Rattle.unit.specs.Unit.{View, unitReply, unitAsked, fedNote}
 use Rattle.unit.specs.Room.{Room, newRoom, plain}

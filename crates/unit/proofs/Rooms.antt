@@ -1,6 +1,6 @@
 -- The unit and the plain room are alike: `meaning room` is what a memory means whose unit has accepted just the room's L since the last boundary.
 use mathlib.Core.Path.{_≡_, refl, sym, ap, ap₂, _∙_}
-use Prim.Native.Nat.{ℕ, _+_, _≤_}
+use Prim.Native.Nat.{ℕ, _+_}
 use native.Mathlib.Omega.{arith}
 use mathlib.Core.Bool.{Bool, true, false, cond, not, _&&_}
 use mathlib.Core.Option.{Option, none, some}
@@ -8,11 +8,11 @@ use mathlib.Core.List.{List, [], _∷_, _++_, foldl}
 use lib.Dec.{leb, eqb}
 use borrow.Author.Tests.{eqb-true, lt-leb, eq-eqb, ne-eqb}
 use Rattle.unit.specs.Records.{Mark, watched, calibrated, Event, took, noted, Record, whole, sample, reset, note, look, cut}
-use Rattle.unit.specs.Answers.{Answer, refused, told}
+use Rattle.unit.specs.Answers.{refused}
 use Rattle.unit.specs.Sensing.{Sensing, Now, after, toCalibrate, counted, calibratedIn, detect, answersTo, Laws}
 use Rattle.unit.specs.Walk.{runOf}
-use Rattle.unit.specs.Unit.{View, newView, differs, kept, fullAfter, refusalIn, fedAs, finds, releasedIn, unitAnswers, unitNext, unit, fedNote}
-use Rattle.unit.specs.Room.{Room, newRoom, now, inForce, sameTag, otherTag, isFull, refusalOf, left, joined, findingOf, releasedBy, roomAnswers, roomNext, plain, withNote}
+use Rattle.unit.specs.Unit.{View, newView, differs, kept, fullAfter, refusalIn, fedAs, finds, unitAnswers, unitNext, unit, fedNote}
+use Rattle.unit.specs.Room.{Room, newRoom, now, inForce, sameTag, otherTag, isFull, refusalOf, left, joined, releasedBy, roomAnswers, roomNext, plain, withNote}
 use Rattle.num.proofs.Logic.{never}
 use Rattle.unit.proofs.Walking.{leaving, walks-alike}
 use Rattle.unit.proofs.Reached.{Reached, reached-next, tagIn, Tagging, none-yet, all-of, tagging, now-joined}

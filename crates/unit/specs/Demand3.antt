@@ -11,7 +11,7 @@ use lib.Dec.{ltb}
 use Rattle.unit.specs.Records.{Event, took, noted, Record, whole, sample, reset, note, look, cut}
 use Rattle.unit.specs.Answers.{Said, saidAt}
 use Rattle.unit.specs.Sensing.{Sensing, WarmUp}
-use Rattle.unit.specs.Room.{Room, inForce, refusalOf, left, joined, findingOf, releasedBy, roomAnswers}
+use Rattle.unit.specs.Room.{Room, inForce, refusalOf, left, findingOf, releasedBy, roomAnswers}
 use Rattle.unit.specs.Calls.{Return, begun, ran, Call, begin, run, beginRefusal}
 use Rattle.unit.specs.Places.{plainly, Place, earlier, roomAt, spaceLeft, HasSpace, Boundary, answersBefore, inPlaceOf, spaceAtBoundary, EmptyBehindAReset, OneTagSinceABoundary, CanBeginAnew, LooksLeaveNoTrace, runGives, goesOn}
 use Rattle.unit.specs.declared.Ran.{Ran}

@@ -2,12 +2,12 @@
 -- such a place (document 01, "The plain room", second paragraph). Assumes nothing.
 use mathlib.Core.Path.{_≡_}
 use Prim.Native.Nat.{ℕ, _+_, _-_, _*_}
-use mathlib.Core.Bool.{Bool, true, false, cond}
+use mathlib.Core.Bool.{true, false, cond}
 use mathlib.Core.Option.{Option, none, some}
 use mathlib.Core.List.{List, [], _∷_, _++_}
 use lib.ListN.{length}
 use Rattle.unit.specs.Records.{Mark, Record, whole, sample, reset, note, look, Event, took, noted, cut}
-use Rattle.unit.specs.Answers.{Answer, told, Said, saidAt, later}
+use Rattle.unit.specs.Answers.{Answer, told, Said, later}
 use Rattle.unit.specs.Sensing.{Sensing, toCalibrate, written, Together}
 use Rattle.unit.specs.Walk.{Walked, runOf, shortOf, sixOf}
 use Rattle.unit.specs.Room.{Room, newRoom, plain, inForce, refusalOf, otherTag, releasedBy, roomAnswers}
@@ -91,7 +91,7 @@ module _ (S : Sensing) where
   abbrev pub CanBeginAnew : Type 0
   CanBeginAnew = (P : Place) → (g : S .Given) × (S .settings g ≡ inForce S (roomAt P)) × (beginRefusal S g (length (P .memory)) ≡ 0)
 
-  -- Looks leave no trace (document 02, item 13): behind the same calls and the same records but for looks there is the same room, so that, by
+  -- Looks leave no trace: behind the same calls and the same records but for looks there is the same room, so that, by
   -- `FromTheSamplesAlone`, what follows is the same.
   abbrev pub withoutLooks : List Record → List Record
   withoutLooks [] = []

@@ -2,7 +2,6 @@
 use mathlib.Core.Path.{_≡_, refl, ap, _∙_}
 use Prim.Native.Nat.{_≤_}
 use native.Mathlib.Omega.{arith}
-use borrow.Author.Needs.{needs}
 use lib.IntN.{pos}
 use lib.ListN.{length, drop, replicate}
 use Rattle.csi.specs.Layout.{maxSubcarriers, layoutOf, entriesOf, needOf, Usable}
