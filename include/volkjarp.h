@@ -38,7 +38,7 @@ static inline const char *volkjarp_version(void)
 
 #define VOLKJARP_ACCEPT 0          /* none */
 #define VOLKJARP_REFUSE_SETTINGS 1 /* a setting out of its range, or another length */
-#define VOLKJARP_REFUSE_MEMORY 2   /* another length, or memory or a state not as a call left it */
+#define VOLKJARP_REFUSE_MEMORY 2   /* memory or a state: another length, out of range, or other sums */
 #define VOLKJARP_REFUSE_FORM 3     /* not the bytes of a sample */
 #define VOLKJARP_REFUSE_TAG 4      /* an unknown layout */
 #define VOLKJARP_REFUSE_IQ 5       /* too few I/Q bytes */

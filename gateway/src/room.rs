@@ -111,7 +111,8 @@ impl Room {
     ///
     /// # Errors
     ///
-    /// [`Refusal::Memory`], if the length, a number or a sum in it is not one that the unit leaves.
+    /// [`Refusal::Memory`], if the length does not fit the settings in it, a number is out of its range,
+    /// or a sum is not that of its rows.
     pub fn from_memory(memory: impl Into<Vec<u8>>) -> Result<Room, Refusal> {
         let mut room = Room {
             memory: memory.into(),
