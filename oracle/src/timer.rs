@@ -60,6 +60,13 @@ pub fn ratio_over<I, A, B>(
     )
 }
 
+/// The median of so many times.
+pub fn median(times: usize, mut work: impl FnMut()) -> Duration {
+    let mut found: Vec<Duration> = (0..times).map(|_| time(&mut work)).collect();
+    found.sort();
+    found[times / 2]
+}
+
 fn time(work: &mut impl FnMut()) -> Duration {
     let start = Instant::now();
     work();

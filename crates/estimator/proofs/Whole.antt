@@ -13,7 +13,7 @@ use Rattle.window.proofs.View.{length-window}
 use Rattle.vitals.specs.Series.{at}
 use Rattle.vitals.specs.Correlation.{curve}
 use Rattle.vitals.specs.Peak.{bestLag}
-use Rattle.vitals.specs.Steps.{Padded}
+use Rattle.vitals.specs.Steps.{blockLen, Padded}
 use Rattle.vitals.specs.declared.config.VitalsConfig.{VitalsConfig}
 use Rattle.estimator.specs.Estimate.{emptyAt, readAt, rhythmOf, columnsOf, lowest, longest, estimateOf}
 
@@ -52,9 +52,9 @@ zero-part k (suc n) zero = refl
 zero-part zero (suc n) (suc m) = refl
 zero-part (suc k) (suc n) (suc m) = zero-part k n m
 
-pub zero-padded : (n room : ℕ) → n + 32 ≤ room → Padded n (take (n + 32) (replicate room (pos 0)))
+pub zero-padded : (n room : ℕ) → n + blockLen ≤ room → Padded n (take (n + blockLen) (replicate room (pos 0)))
 zero-padded n room h = record {
-  long = length-take (n + 32) (replicate room (pos 0)) ∙ omega (arith, length-replicate room (pos 0));
-  zeros = λ k l. zero-part k room (n + 32);
-  samples = λ k. rw (zero-part k room (n + 32)) (omega arith);
+  long = length-take (n + blockLen) (replicate room (pos 0)) ∙ omega (arith, length-replicate room (pos 0));
+  zeros = λ k l. zero-part k room (n + blockLen);
+  samples = λ k. rw (zero-part k room (n + blockLen)) (omega arith);
 }

@@ -15,12 +15,13 @@ use crate::Progress;
 use crate::Vitals;
 use crate::steps::Stepped;
 use vitals::config::VitalsConfig;
+use vitals::steps::correlation::BLOCK;
 
 // The most lags that are summed: 1 to hi + 1.
 const MAX_LAGS: usize = 128;
 
 // A series' room, with a block of zeros behind it, and that of the summed correlations, by lag.
-const ROOM: usize = 544;
+const ROOM: usize = 576;
 
 const LAG_ROOM: usize = 129;
 
@@ -134,8 +135,8 @@ fn estimate(
         time,
         lo,
         hi,
-        &mut a[..n + 32],
-        &mut b[..n + 32],
+        &mut a[..n + BLOCK],
+        &mut b[..n + BLOCK],
         &mut summed[..hi + 2],
     )
 }

@@ -27,6 +27,7 @@ pub mod Read
 pub mod Root
 pub mod Row
 pub mod Rules
+pub mod Sign
 pub mod Squares
 pub mod Stored
 pub mod Sum

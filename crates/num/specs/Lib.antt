@@ -3,6 +3,7 @@ pub mod Limits
 pub mod Lists
 pub mod Root
 pub mod Rules
+pub mod Sign
 pub mod Sum
 pub mod Tests
 pub mod Words

@@ -4,6 +4,7 @@ ghost use Prim.Native.Nat.{_+_, _-_, _<_, _≤_, _^_, min};
 ghost use lib.IntN.{natAbs, _-ℤ_};
 ghost use lib.ListN.{take};
 ghost use Rattle.num.specs.Root.{root, Near};
+ghost use Rattle.num.specs.Sign.{withSign};
 ghost use Rattle.num.specs.Sum.{apart, dotZ, maxTerms};
 ghost use Rattle.num.specs.Wrap.{modZ, wrap16, signed8, signed32};
 
@@ -148,6 +149,23 @@ pub fn unsigned_abs_i32(x: i32) -> u64
     ensures { λ r. ⌜ r ≡ natAbs x ⌝ }
 {
     if x < 0 { -(x as i64) as u64 } else { x as u64 }
+}
+
+pub fn unsigned_abs_i64(x: i64) -> u64
+    ensures { λ r. ⌜ r ≡ natAbs x ⌝ }
+{
+    if x < 0 { (-1 - x) as u64 + 1 } else { x as u64 }
+}
+
+// A magnitude with its sign put back.
+pub fn with_sign(negative: bool, size: u16) -> i32
+    ensures { λ r. ⌜ r ≡ withSign negative size ⌝ }
+{
+    if negative {
+        -(size as i32)
+    } else {
+        size as i32
+    }
 }
 
 // The magnitude of the signed number that a byte holds: Rust's `(b as i8).unsigned_abs()`.

@@ -10,6 +10,7 @@ use Rattle.num.specs.Sum.{sumZ, dotZ}
 use Rattle.vitals.specs.Series.{at}
 use Rattle.vitals.specs.Correlation.{energy, corrOf}
 use Rattle.vitals.specs.declared.steps.divide.Divisor.{Divisor}
+use Rattle.vitals.specs.declared.steps.correlation.Energy.{Energy}
 use Rattle.vitals.specs.declared.steps.series.Window.{Window}
 
 -- what to multiply with, for a division by d: 1 / d in 2^46ths, rounded up
@@ -24,6 +25,20 @@ pub record Exact (d : Divisor) : Type 0 where
   pub some : 1 ≤ d .by
   pub few : d .by ≤ 32767
   pub factor : d .factor ≡ inverse (d .by)
+
+-- the largest energy: 512 samples of 16 bits
+abbrev pub mostEnergy : ℕ
+mostEnergy = 512 * (32768 * 32768)
+
+-- what to multiply with, for 1000 n / e: in 2^44ths, rounded up
+abbrev pub perEnergy : (n e : ℕ) → ℕ
+perEnergy n e = 1000 * n * 2 ^ 44 / e + 1
+
+-- the energy of n samples, and its factor
+pub record Scaled (n : ℕ) (e : Energy) : Type 0 where
+  pub some : 1 ≤ e .sum
+  pub most : e .sum ≤ mostEnergy
+  pub factor : e .factor ≡ perEnergy n (e .sum)
 
 -- each sample has 16 bits
 abbrev pub Samples : List ℤ → Type 0
@@ -53,9 +68,13 @@ Summable a b = (k m : ℕ) → natAbs (partOf a b k m) ≤ 2147483647
 abbrev pub ZerosFrom : ℕ → List ℤ → Type 0
 ZerosFrom n x = (k : ℕ) → n ≤ k → at x k ≡ pos 0
 
+-- the samples of a block, whose products are summed at a time
+abbrev pub blockLen : ℕ
+blockLen = 64
+
 -- a series of n samples with a block of zeros behind it
 pub record Padded (n : ℕ) (x : List ℤ) : Type 0 where
-  pub long : length x ≡ n + 32
+  pub long : length x ≡ n + blockLen
   pub zeros : ZerosFrom n x
   pub samples : Samples x
 

@@ -91,10 +91,8 @@ fn mean_in(sum: i32, d: Divisor) -> i32
     requires { ⌜ Exact d × (natAbs sum ≤ 32768 * d .by) ⌝ }
     ensures { λ r. ⌜ (r ≡ quotZ sum (pos (d .by))) × (natAbs r ≤ 1073741824) ⌝ }
 {
-    if sum < 0 {
-        return -(crate::steps::divide::divide((-sum) as u32, d) as i32);
-    }
-    crate::steps::divide::divide(sum as u32, d) as i32
+    let size = crate::steps::divide::divide(num::unsigned_abs_i32(sum) as u32, d);
+    num::with_sign(sum < 0, size as u16)
 }
 
 // The smaller of two numbers.

@@ -91,7 +91,7 @@ over-columns-requires c κs =
     let wide : c .before .before .before .before .before .smaller .result + 1 ≤ 128 = c .before .before .before .if2 .left in
     let hi = c .before .before .before .before .before .smaller .ensures in
     let inside = c .before .before .before .before .if1 .left in (
-      (omega arith, p .1, p .2, p .3, p .4, zero-padded (a .n) 544 (omega arith), zero-padded (a .n) 544 (omega arith)),
+      (omega arith, p .1, p .2, p .3, p .4, zero-padded (a .n) 576 (omega arith), zero-padded (a .n) 576 (omega arith)),
       (omega arith, omega arith, omega arith, simp (length-take, length-replicate) (omega arith), λ k. rw (zero-part k 129 (c .before .before .before .before .before .smaller .result + 2)) (omega arith), fast),
     )
 

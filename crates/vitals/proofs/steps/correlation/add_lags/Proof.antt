@@ -20,13 +20,13 @@ use Rattle.vitals.proofs.steps.correlation.add_lags.Statement.{statemen
 use Rattle.vitals.proofs.steps.correlation.add_lags.Tie as tie
 
 abbrev Inv-loop : tie.InvT-loop
-Inv-loop x n energy summed₀ hi used lag₀ lag-end summed lag =
+Inv-loop x n e summed₀ hi used lag₀ lag-end summed lag =
     (1 ≤ lag) × (lag ≤ hi + 2) × (lag-end ≡ hi + 2) × (length summed ≡ length summed₀) ×
     ((k : ℕ) → k < lag → 1 ≤ k → at summed k ≡ at summed₀ k +ℤ corrOf (take n x) k) ×
     ((k : ℕ) → lag ≤ k → at summed k ≡ at summed₀ k) × Within (2000 * (used + 1)) summed × (at summed 0 ≡ at summed₀ 0)
 
 abbrev μ-loop : tie.MeasureT-loop
-μ-loop x n energy summed₀ hi used lag₀ lag-end summed lag = hi + 2 - lag
+μ-loop x n e summed₀ hi used lag₀ lag-end summed lag = hi + 2 - lag
 
 -- the sum that is stored
 module _ (c : tie.After-plus-corr Inv-loop μ-loop) where
@@ -72,7 +72,7 @@ slice-copy-out-plus-corr c = omega arith
 corr-at-requires : tie.Need-corr-at-requires Inv-loop μ-loop
 corr-at-requires c κs =
     let p = c .before .before .before .pre .0 in
-    (p .0, omega arith, p .2, p .3, p .4, p .5)
+    (p .0, omega arith, p .2, p .3, p .4)
 
 plus-corr-requires : tie.Need-plus-corr-requires Inv-loop μ-loop
 plus-corr-requires c κs =

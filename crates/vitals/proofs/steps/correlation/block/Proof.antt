@@ -1,4 +1,4 @@
--- `block` meets its contract: two sums of 16. Assumes nothing.
+-- `block` meets its contract: two sums of 32. Assumes nothing.
 use mathlib.Core.Path.{_∙_}
 use borrow.Author.Needs.{needs, sfits-of}
 use mir.Facts.{toZ-ofZ}
@@ -6,25 +6,25 @@ use Rattle.vitals.proofs.Doubled.{doubled-fits, doubled}
 use Rattle.vitals.proofs.steps.correlation.block.Statement.{statement}
 use Rattle.vitals.proofs.steps.correlation.block.Tie as tie
 
-sixteen-requires : tie.Need-sixteen-requires
-sixteen-requires c κs = search needs
+thirty-two-requires : tie.Need-thirty-two-requires
+thirty-two-requires c κs = search needs
 
-add-sixteen : tie.Need-add-sixteen
-add-sixteen c = search needs
+add-thirty-two : tie.Need-add-thirty-two
+add-thirty-two c = search needs
 
-sixteen-requires-2 : tie.Need-sixteen-requires-2
-sixteen-requires-2 c κs = search needs
+thirty-two-requires-2 : tie.Need-thirty-two-requires-2
+thirty-two-requires-2 c κs = search needs
 
 add-result : tie.Need-add-result
 add-result c =
     let a = c .before .before .args in
-    doubled-fits (a .a .now) (a .b .now) (c .before .before .pre .2) (a .k) 16 (toZ-ofZ (sfits-of (c .before .sixteen .ok)) ∙ c .before .sixteen .ensures) (toZ-ofZ (sfits-of (c .sixteen2 .ok)) ∙ c .sixteen2 .ensures)
+    doubled-fits (a .a .now) (a .b .now) (c .before .before .pre .2) (a .k) 32 (toZ-ofZ (sfits-of (c .before .thirty-two .ok)) ∙ c .before .thirty-two .ensures) (toZ-ofZ (sfits-of (c .thirty-two2 .ok)) ∙ c .thirty-two2 .ensures)
 
 returns : tie.Need-returns
 returns c =
     let a = c .before .before .args in
-    doubled (a .a .now) (a .b .now) (c .before .before .pre .2) (a .k) 16 (toZ-ofZ (sfits-of (c .before .sixteen .ok)) ∙ c .before .sixteen .ensures) (toZ-ofZ (sfits-of (c .sixteen2 .ok)) ∙ c .sixteen2 .ensures)
+    doubled (a .a .now) (a .b .now) (c .before .before .pre .2) (a .k) 32 (toZ-ofZ (sfits-of (c .before .thirty-two .ok)) ∙ c .before .thirty-two .ensures) (toZ-ofZ (sfits-of (c .thirty-two2 .ok)) ∙ c .thirty-two2 .ensures)
 
 pub block-spec : {M : Type 1} → statement M
 block-spec =
-    tie.close (tie.spec sixteen-requires add-sixteen sixteen-requires-2 add-result returns)
+    tie.close (tie.spec thirty-two-requires add-thirty-two thirty-two-requires-2 add-result returns)

@@ -18,7 +18,7 @@ lagged-requires c κs = search needs
 rho-requires : tie.Need-rho-requires
 rho-requires c κs =
     let p = c .before .pre in
-    rw (toZ-ofZ (sfits-of (c .lagged .ok))) (c .lagged .ensures .1, p .4, p .5, p .1, p .0)
+    rw (toZ-ofZ (sfits-of (c .lagged .ok))) (c .lagged .ensures .1, p .4, p .1, p .0)
 
 returns : tie.Need-returns
 unfolding corrOf

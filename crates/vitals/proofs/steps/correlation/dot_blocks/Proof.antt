@@ -11,26 +11,27 @@ use mir.Facts.{toZ-ofZ}
 use Rattle.num.specs.Sum.{dotZ}
 use Rattle.num.proofs.Abs.{sfits-abs}
 use Rattle.num.proofs.Dot.{dot-split, dot-cut}
+use Rattle.vitals.specs.Steps.{blockLen}
 use Rattle.vitals.proofs.steps.correlation.dot_blocks.Statement.{statement}
 use Rattle.vitals.proofs.steps.correlation.dot_blocks.Tie as tie
 
 abbrev Inv-loop : tie.InvT-loop
 Inv-loop a b n sum₀ k₀ sum k =
-    (k < n + 32) × (toZ w32 sum ≡ dotZ (take k a) b)
+    (k < n + blockLen) × (toZ w32 sum ≡ dotZ (take k a) b)
 
 abbrev μ-loop : tie.MeasureT-loop
 μ-loop a b n sum₀ k₀ sum k = n - k
 
 module _ (c : tie.After-block Inv-loop μ-loop) where
-  more : toZ w32 (c .before .before .loop .sum) +ℤ toZ w32 (ofZ w32 (c .block .result)) ≡ dotZ (take (c .before .before .loop .k + 32) (c .before .before .before .args .a .now)) (c .before .before .before .args .b .now)
+  more : toZ w32 (c .before .before .loop .sum) +ℤ toZ w32 (ofZ w32 (c .block .result)) ≡ dotZ (take (c .before .before .loop .k + blockLen) (c .before .before .before .args .a .now)) (c .before .before .before .args .b .now)
   more =
       let a = c .before .before .before .args in
-      rw (c .before .before .loop .inv .1, toZ-ofZ (sfits-of (c .block .ok)), c .block .ensures) (sym (dot-split (c .before .before .loop .k) 32 (a .a .now) (a .b .now)))
+      rw (c .before .before .loop .inv .1, toZ-ofZ (sfits-of (c .block .ok)), c .block .ensures) (sym (dot-split (c .before .before .loop .k) blockLen (a .a .now) (a .b .now)))
 
   fits : SFits w32 (toZ w32 (c .before .before .loop .sum) +ℤ toZ w32 (ofZ w32 (c .block .result)))
   fits =
       let a = c .before .before .before .args in
-      rw more (sfits-abs {w = w32} (dotZ (take (c .before .before .loop .k + 32) (a .a .now)) (a .b .now)) (omega (arith, c .before .before .before .pre .2 0 (c .before .before .loop .k + 32))))
+      rw more (sfits-abs {w = w32} (dotZ (take (c .before .before .loop .k + blockLen) (a .a .now)) (a .b .now)) (omega (arith, c .before .before .before .pre .2 0 (c .before .before .loop .k + blockLen))))
 
 loop-holds : tie.Need-loop-holds Inv-loop μ-loop
 unfolding dotZ

@@ -1,93 +1,54 @@
--- `rho` meets its contract: 2^39 · 1000 · 512 is below 2^63. Assumes nothing.
-use mir.Facts.{toZ-ofZ, toZ-pos}
-use Rattle.num.proofs.Abs.{abs-mul, mul-fits, quot-fits}
-use Rattle.num.proofs.Read.{read-abs}
-use mathlib.Core.Path.{_≡_, ap, _∙_}
-use Prim.Native.Nat.{ℕ, _≤_}
-use native.Mathlib.Nat.{mul-le-mul}
+-- `rho` meets its contract: the sign goes through the products, the division and the limits. Assumes nothing.
+use mathlib.Core.Path.{_≡_, sym, ap, _∙_}
+use mathlib.Core.Bool.{Bool}
+use Prim.Native.Nat.{ℕ, _-_, _*_, _/_, min}
+use native.Mathlib.Nat.{mul-assoc}
 use native.Mathlib.Omega.{arith}
-use lib.IntN.{ℤ, pos, negsuc, natAbs, _*ℤ_}
-use lib.Signed.{quotZ}
-use mir.Syntax.{w32, w64}
-use mir.Val.{SFits, toZ, ofZ}
-use Rattle.num.specs.Clamp.{clampZ}
 use borrow.Author.Needs.{needs, sfits-of}
+use lib.IntN.{ℤ, pos, negsuc, natAbs, _*ℤ_}
+use lib.Signed.{ltZ, quotZ}
+use mir.Syntax.{w32, w64}
+use mir.Val.{toZ, ofZ}
+use mir.Facts.{toZ-ofZ}
+use Rattle.num.specs.Clamp.{clampZ}
+use Rattle.num.specs.Sign.{withSign}
+use Rattle.num.proofs.Sign.{sign-self, sign-mul, sign-quot, sign-clamp}
+use Rattle.vitals.specs.Correlation.{rhoOf}
 use Rattle.vitals.proofs.steps.correlation.rho.Statement.{statement}
 use Rattle.vitals.proofs.steps.correlation.rho.Tie as tie
 
-module _ (c : tie.After-overlap-energy) where
-  abbrev r : ℤ
-  r = c .before .args .r
+signed : (b : Bool) (a e n lag : ℕ) → rhoOf (withSign b a) e n lag ≡ withSign b (min 2000 (a * (1000 * n) / ((n - lag) * e)))
+signed b a e n lag =
+    let d = (n - lag) * e in
+    ap (λ (z : ℤ). clampZ (negsuc 1999) (pos 2000) (quotZ z (pos d))) (ap (λ (z : ℤ). z *ℤ pos n) (sign-mul b a 1000) ∙ sign-mul b (a * 1000) n)
+    ∙ ap (clampZ (negsuc 1999) (pos 2000)) (sign-quot b (a * 1000 * n) d)
+    ∙ sign-clamp 1999 b (a * 1000 * n / d)
+    ∙ ap (λ (x : ℕ). withSign b (min 2000 (x / d))) (mul-assoc a 1000 n)
 
-  abbrev n : ℕ
-  n = c .before .args .n
+rho-by : (r : ℤ) (e n lag : ℕ) → withSign (ltZ r (pos 0)) (min 2000 (natAbs r * (1000 * n) / ((n - lag) * e))) ≡ rhoOf r e n lag
+rho-by r e n lag = sym (signed (ltZ r (pos 0)) (natAbs r) e n lag) ∙ ap (λ (z : ℤ). rhoOf z e n lag) (sign-self r)
 
-  abbrev d : ℕ
-  d = c .overlap-energy .result
+self : (c : tie.Start) → toZ w64 (ofZ w64 (c .args .r)) ≡ c .args .r
+self c = toZ-ofZ (c .fits .r)
 
-  fits-thousand : SFits w64 (r *ℤ pos 1000)
-  fits-thousand = mul-fits r (pos 1000) (omega arith)
+unsigned-abs-i64-requires : tie.Need-unsigned-abs-i64-requires
+unsigned-abs-i64-requires c κs = search needs
 
-  fits-top : SFits w64 (r *ℤ pos 1000 *ℤ pos n)
-  fits-top =
-      let a : natAbs (r *ℤ pos 1000) ≤ 549755813888000 = omega (arith, abs-mul r (pos 1000)) in
-      mul-fits (r *ℤ pos 1000) (pos n) (omega (arith, mul-le-mul a (c .before .pre .4)))
+permille-requires : tie.Need-permille-requires
+permille-requires c κs =
+    let s = c .before in
+    let h : c .unsigned-abs-i64 .result ≡ natAbs (s .args .r) = c .unsigned-abs-i64 .ensures ∙ ap natAbs (self s) in
+    (omega (arith, h, s .pre .0), s .pre .1, s .pre .2, s .pre .3)
 
-  fits-quot : SFits w64 (quotZ (r *ℤ pos 1000 *ℤ pos n) (pos d))
-  fits-quot = quot-fits d fits-top
-
-  -- each step read back from its local
-  top : toZ w64 (ofZ w64 (toZ w64 (ofZ w64 r) *ℤ pos 1000)) *ℤ toZ w64 n ≡ r *ℤ pos 1000 *ℤ pos n
-  top = rw (read-abs w64 r (omega arith), toZ-ofZ {w = w64} {z = r *ℤ pos 1000} fits-thousand, toZ-pos w64 {n = n} (omega arith))
-
-  quot : quotZ (toZ w64 (ofZ w64 (toZ w64 (ofZ w64 (toZ w64 (ofZ w64 r) *ℤ pos 1000)) *ℤ toZ w64 n))) (toZ w64 d) ≡ quotZ (r *ℤ pos 1000 *ℤ pos n) (pos d)
-  quot = rw (top, toZ-ofZ {w = w64} fits-top, toZ-pos w64 {n = d} (omega arith))
-
-sub-overlap-energy : tie.Need-sub-overlap-energy
-sub-overlap-energy c = search needs
-
-overlap-energy-requires : tie.Need-overlap-energy-requires
-overlap-energy-requires c κs = search needs
-
-mul-clamp-2000 : tie.Need-mul-clamp-2000
-mul-clamp-2000 c = rw (read-abs w64 (r c) (omega (arith, c .before .pre .0))) (fits-thousand c)
-
-cast-clamp-2000 : tie.Need-cast-clamp-2000
-cast-clamp-2000 c = search needs
-
-mul-clamp-2000-2 : tie.Need-mul-clamp-2000-2
-mul-clamp-2000-2 c = rw (top c) (fits-top c)
-
-cast-clamp-2000-2 : tie.Need-cast-clamp-2000-2
-cast-clamp-2000-2 c = search needs
-
-div-clamp-2000 : tie.Need-div-clamp-2000
-div-clamp-2000 c = (omega arith, rw (quot c) (fits-quot c))
-
-clamp-2000-requires : tie.Need-clamp-2000-requires
-clamp-2000-requires c κs = search needs
+with-sign-requires : tie.Need-with-sign-requires
+with-sign-requires c κs = search needs
 
 returns : tie.Need-returns
 returns c =
-    let a = c .before .before .args in
-    let o = c .before .overlap-energy in
-    let q = quotZ (a .r *ℤ pos 1000 *ℤ pos (a .n)) (pos (o .result)) in
-    toZ-ofZ (sfits-of {w = w32} {z = c .clamp-2000 .result} (c .clamp-2000 .ok)) ∙ c .clamp-2000 .ensures ∙
-    ap (clampZ (negsuc 1999) (pos 2000))
-    (ap (λ (z : ℤ). toZ w64 (ofZ w64 z)) (quot (c .before)) ∙
-    toZ-ofZ {w = w64} {z = q} (fits-quot (c .before)) ∙
-    ap (λ (d : ℕ). quotZ (a .r *ℤ pos 1000 *ℤ pos (a .n)) (pos d)) (o .ensures .0))
+    let s = c .before .before .before in
+    let a = s .args in
+    toZ-ofZ (sfits-of {w = w32} (c .with-sign .ok)) ∙ c .with-sign .ensures
+    ∙ rw (c .before .permille .ensures, c .before .before .unsigned-abs-i64 .ensures, self s) (rho-by (a .r) (a .e .sum) (a .n) (a .lag))
 
 pub rho-spec : {M : Type 1} → statement M
-rho-spec =
-    tie.close
-    (tie.spec
-    sub-overlap-energy
-    overlap-energy-requires
-    mul-clamp-2000
-    cast-clamp-2000
-    mul-clamp-2000-2
-    cast-clamp-2000-2
-    div-clamp-2000
-    clamp-2000-requires
-    returns)
+rho-spec = tie.close (tie.spec unsigned-abs-i64-requires permille-requires with-sign-requires returns)

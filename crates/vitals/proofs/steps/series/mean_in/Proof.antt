@@ -1,116 +1,67 @@
 -- `mean_in` meets its contract: the size is divided, and the sign put back. Assumes nothing.
-use mathlib.Core.Path.{_≡_, ap, _∙_}
-use Prim.Native.Nat.{ℕ, _/_, _≤_}
-use native.Mathlib.Nat.{div-le-self}
+use mathlib.Core.Path.{_≡_, sym, ap, _∙_}
+use Prim.Native.Nat.{ℕ, _*_, _/_, _≤_}
+use native.Mathlib.Nat.{div-le-of-le-mul}
 use native.Mathlib.Omega.{arith}
-use lib.IntN.{ℤ, pos, negℤ, natAbs, _-ℤ_}
+use borrow.Author.Needs.{needs, sfits-of}
+use lib.IntN.{ℤ, pos, natAbs}
+use lib.Signed.{ltZ, quotZ}
 use mir.Syntax.{w32}
-use mir.Val.{SFits, toZ, ofZ}
-use mir.Facts.{toZ-ofZ, toZ-pos}
-use Rattle.num.proofs.Abs.{sfits-abs, abs-minus, abs-neg, not-neg, neg-not-neg, minus-sfits}
-use Rattle.num.proofs.Divisor.{quot-neg, quot-not-neg}
-use Rattle.num.proofs.Read.{read-abs, minus-fits, minus-read}
+use mir.Val.{toZ, ofZ}
+use mir.Facts.{toZ-ofZ}
+use Rattle.num.specs.Sign.{withSign}
+use Rattle.num.proofs.Sign.{sign-self, sign-size, sign-quot}
 use Rattle.vitals.proofs.steps.series.mean_in.Statement.{statement}
 use Rattle.vitals.proofs.steps.series.mean_in.Tie as tie
 
-module _ (start : tie.Start) where
-  abbrev z : ℤ
-  z = start .args .sum
+self : (c : tie.Start) → toZ w32 (ofZ w32 (c .args .sum)) ≡ c .args .sum
+self c = toZ-ofZ (c .fits .sum)
 
-  small : natAbs z ≤ 1073741824
-  small = omega (arith, start .pre .1, start .pre .0 .few)
-
-  self : toZ w32 (ofZ w32 z) ≡ z
-  self = read-abs w32 z (omega (arith, small))
-
-  fits-minus : SFits w32 (pos 0 -ℤ z)
-  fits-minus = minus-sfits z (omega (arith, small))
-
-  turned : toZ w32 (ofZ w32 (pos 0 -ℤ toZ w32 (ofZ w32 z))) ≡ pos 0 -ℤ z
-  turned = rw self (toZ-ofZ fits-minus)
+size : (c : tie.After-unsigned-abs-i32) → c .unsigned-abs-i32 .result ≡ natAbs (c .before .args .sum)
+size c = c .unsigned-abs-i32 .ensures ∙ ap natAbs (self (c .before))
 
 quotient : (c : tie.After-divide) → c .divide .result ≡ natAbs (c .before .before .args .sum) / c .before .before .args .d .by
-quotient c =
-    let a = c .before .before .args in
-    c .divide .ensures ∙ ap (λ (n : ℕ). n / a .d .by) (ap natAbs (turned (c .before .before)) ∙ abs-minus (a .sum))
+quotient c = c .divide .ensures ∙ ap (λ (n : ℕ). n / c .before .before .args .d .by) (size (c .before))
 
-quotient-2 : (c : tie.After-divide2) → c .divide2 .result ≡ natAbs (c .before .before .args .sum) / c .before .before .args .d .by
-quotient-2 c =
-    let a = c .before .before .args in
-    c .divide2 .ensures ∙ ap (λ (n : ℕ). n / a .d .by) (ap natAbs (self (c .before .before)))
+small : (c : tie.After-divide) → c .divide .result ≤ 32768
+small c =
+    let s = c .before .before in
+    let h : natAbs (s .args .sum) ≤ s .args .d .by * 32768 = omega (arith, s .pre .1) in
+    omega (arith, quotient c, div-le-of-le-mul (s .args .d .by) h)
 
-small-quotient : (c : tie.After-divide) → c .divide .result ≤ 1073741824
-small-quotient c =
-    let a = c .before .before .args in
-    omega (arith, quotient c, div-le-self (natAbs (a .sum)) (a .d .by), small (c .before .before))
+mean : (z : ℤ) (d : ℕ) → withSign (ltZ z (pos 0)) (natAbs z / d) ≡ quotZ z (pos d)
+mean z d = sym (sign-quot (ltZ z (pos 0)) (natAbs z) d) ∙ ap (λ (y : ℤ). quotZ y (pos d)) (sign-self z)
 
-small-quotient-2 : (c : tie.After-divide2) → c .divide2 .result ≤ 1073741824
-small-quotient-2 c =
-    let a = c .before .before .args in
-    omega (arith, quotient-2 c, div-le-self (natAbs (a .sum)) (a .d .by), small (c .before .before))
-
-sub-divide : tie.Need-sub-divide
-sub-divide c = rw (self (c .before)) (fits-minus (c .before))
+unsigned-abs-i32-requires : tie.Need-unsigned-abs-i32-requires
+unsigned-abs-i32-requires c κs = search needs
 
 cast-divide : tie.Need-cast-divide
-cast-divide c =
-    let a = c .before .args in
-    let t = rw (self (c .before)) at (c .if1 .taken) in
-    rw (turned (c .before))
-    (neg-not-neg (a .sum) t, record { fits = omega (arith, abs-minus (a .sum), small (c .before)) })
+cast-divide c = record { fits = omega (arith, size c, c .before .pre .1, c .before .pre .0 .few) }
 
 divide-requires : tie.Need-divide-requires
-divide-requires c κs =
-    let a = c .before .args in let p = c .before .pre in
-    rw (turned (c .before)) (p .0, omega (arith, abs-minus (a .sum)))
+divide-requires c κs = (c .before .pre .0, omega (arith, size c, c .before .pre .1))
 
-cast-result : tie.Need-cast-result
-cast-result c = sfits-abs {w = w32} (pos (c .divide .result)) (omega (arith, small-quotient c))
+cast-with-sign : tie.Need-cast-with-sign
+cast-with-sign c = record { fits = omega (arith, small c) }
 
-sub-result : tie.Need-sub-result
-sub-result c = minus-fits w32 (c .divide .result) (omega (arith, small-quotient c))
+with-sign-requires : tie.Need-with-sign-requires
+with-sign-requires c κs = search needs
 
 returns : tie.Need-returns
 returns c =
-    let a = c .before .before .args in
-    rw (minus-read w32 (c .divide .result) (omega (arith, small-quotient c))) (
-      ap (λ (n : ℕ). negℤ (pos n)) (quotient c) ∙ quot-neg (a .sum) (a .d .by) (rw (self (c .before .before)) at (c .before .if1 .taken)),
-      omega (arith, abs-neg (pos (c .divide .result)), small-quotient c),
-    )
-
-cast-divide-2 : tie.Need-cast-divide-2
-cast-divide-2 c =
-    let a = c .before .args in
-    let t = rw (self (c .before)) at (c .if1 .left) in
-    rw (self (c .before)) (not-neg (a .sum) t, record { fits = omega (arith, small (c .before)) })
-
-divide-requires-2 : tie.Need-divide-requires-2
-divide-requires-2 c κs =
-    let a = c .before .args in let p = c .before .pre in
-    rw (self (c .before)) (p .0, omega arith)
-
-cast-result-2 : tie.Need-cast-result-2
-cast-result-2 c = sfits-abs {w = w32} (pos (c .divide2 .result)) (omega (arith, small-quotient-2 c))
-
-returns-2 : tie.Need-returns-2
-returns-2 c =
-    let a = c .before .before .args in
-    rw (toZ-pos w32 {n = c .divide2 .result} (omega (arith, small-quotient-2 c))) (
-      ap pos (quotient-2 c) ∙ quot-not-neg (a .sum) (a .d .by) (rw (self (c .before .before)) at (c .before .if1 .left)),
-      small-quotient-2 c,
-    )
+    let s = c .before .before .before in
+    let a = s .args in
+    let e : toZ w32 (ofZ w32 (c .with-sign .result)) ≡ withSign (ltZ (a .sum) (pos 0)) (c .before .divide .result) =
+    toZ-ofZ (sfits-of {w = w32} (c .with-sign .ok)) ∙ c .with-sign .ensures ∙ rw (self s) in
+    rw e (rw (quotient (c .before)) (mean (a .sum) (a .d .by)), omega (arith, sign-size (ltZ (a .sum) (pos 0)) (c .before .divide .result), small (c .before)))
 
 pub mean-in-spec : {M : Type 1} → statement M
 mean-in-spec =
     tie.close
     (tie.spec
-    sub-divide
+    unsigned-abs-i32-requires
     cast-divide
     divide-requires
-    cast-result
-    sub-result
-    returns
-    cast-divide-2
-    divide-requires-2
-    cast-result-2
-    returns-2)
+    cast-with-sign
+    with-sign-requires
+    returns)
