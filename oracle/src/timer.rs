@@ -21,11 +21,14 @@ impl fmt::Display for Ratio {
     }
 }
 
-/// Times both `rounds` times (at least 5), after one untimed turn of each.
+/// The rounds that a median asks for.
+pub const FEWEST_ROUNDS: usize = 5;
+
+/// Times both `rounds` times, after one untimed turn of each.
 pub fn ratio(rounds: usize, mut rust: impl FnMut(), mut ours: impl FnMut()) -> Ratio {
     rust();
     ours();
-    let pairs: Vec<(Duration, Duration)> = (0..rounds.max(5))
+    let pairs: Vec<(Duration, Duration)> = (0..rounds.max(FEWEST_ROUNDS))
         .map(|_| (time(&mut rust), time(&mut ours)))
         .collect();
     let ratios = sorted(pairs.iter().map(|(r, o)| o.as_secs_f64() / r.as_secs_f64()));

@@ -21,7 +21,7 @@ use oracle::random::Random;
 use oracle::room::{Answer, RECORD_LEN, WATCH, Watched};
 use oracle::settings::Settings;
 use oracle::streams::steady;
-use oracle::timer::{Ratio, median, ratio};
+use oracle::timer::{FEWEST_ROUNDS, Ratio, median, ratio};
 
 const WINDOW: usize = 50;
 const BLOCKS: usize = 128;
@@ -31,7 +31,7 @@ const LIMIT: f64 = 2.0;
 
 fn main() -> ExitCode {
     let frames = argument(1, 100_000) as usize;
-    let rounds = argument(2, 7) as usize;
+    let rounds = (argument(2, 7) as usize).max(FEWEST_ROUNDS);
     conditions(frames, rounds);
     for (w, n) in [(1, 4), (50, 128), (200, 200), (8192, 512)] {
         println!(
