@@ -1,6 +1,6 @@
 # make help          this list
 # make run           the lines of a sample stream: 5 minutes on a new clone, since they are proved first, then 2 seconds
-# make test          the gate: proofs, edits that must fail, recorded cases, tests, comparisons: under an hour
+# make test          the gate: proofs, edits that must fail, recorded cases, tests, comparisons, pace: under an hour
 # make library       target/staticlib/libvolkjarp.a, all calls for C and Rust: 8 minutes on a new clone, then a second
 # make header        the library from C: layouts, every call, the example: 5 seconds beside the library
 # make gateway       the tests of the Rust crate: 10 seconds beside the library
