@@ -16,14 +16,15 @@ use crate::Vitals;
 use crate::steps::Stepped;
 use vitals::config::VitalsConfig;
 use vitals::steps::correlation::BLOCK;
+use vitals::steps::series::MAX_SAMPLES;
 
 // The most lags that are summed: 1 to hi + 1.
 const MAX_LAGS: usize = 128;
 
 // A series' room, with a block of zeros behind it, and that of the summed correlations, by lag.
-const ROOM: usize = 576;
+const ROOM: usize = MAX_SAMPLES + BLOCK;
 
-const LAG_ROOM: usize = 129;
+const LAG_ROOM: usize = MAX_LAGS + 1;
 
 // No rate, no confidence.
 fn empty(time: u64) -> Vitals

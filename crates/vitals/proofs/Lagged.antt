@@ -11,7 +11,7 @@ use Rattle.num.specs.Sum.{dotZ}
 use Rattle.num.proofs.Clamp.{clamp-size}
 use Rattle.num.proofs.Dot.{dot-cut, dot-front, dot-self-size, part-size}
 use Rattle.vitals.specs.Correlation.{energy, lagged, corrOf}
-use Rattle.vitals.specs.Steps.{Summable, ZerosFrom, Padded}
+use Rattle.vitals.specs.Steps.{mostEnergy, Summable, ZerosFrom, Padded}
 use Rattle.vitals.proofs.Windows.{samples-take}
 
 module _ (n : ℕ) (x : List ℤ) (pad : Padded n x) where
@@ -37,5 +37,5 @@ pub corr-size : (x : List ℤ) (lag : ℕ) → natAbs (corrOf x lag) ≤ 2000
 unfolding corrOf
 corr-size x lag = clamp-size 1999 2000 (quotZ (lagged x lag *ℤ pos 1000 *ℤ pos (length x)) (pos ((length x - lag) * energy x)))
 
-pub energy-size : (n : ℕ) (x : List ℤ) → n ≤ 512 → Padded n x → energy (take n x) ≤ 549755813888
+pub energy-size : (n : ℕ) (x : List ℤ) → n ≤ 512 → Padded n x → energy (take n x) ≤ mostEnergy
 energy-size n x few pad = omega (arith, dot-self-size 32768 (take n x) (samples-take n x (pad .samples)), length-take n x)

@@ -121,12 +121,12 @@ fn scaled(sum: u64, n: usize) -> Energy
     }
 }
 
-// size * 1000 * n over the energy: a product and a shift give it, or one more.
+// size * 1000 * n over the energy: the product gives it or one more, and a comparison tells which.
 fn share(size: u64, e: Energy, n: usize) -> u32
     requires { ⌜ (size ≤ e .sum) × Scaled n e × (n ≤ 512) ⌝ }
     ensures { λ r. ⌜ r ≡ size * (1000 * n) / e .sum ⌝ }
 {
-    let near = (size * e.factor) >> 44;
+    let near = size * e.factor / SCALE;
     if size * (1000 * (n as u64)) < near * e.sum {
         (near - 1) as u32
     } else {
@@ -143,8 +143,8 @@ fn permille(size: u64, e: Energy, n: usize, lag: usize) -> u16
     if q < 2000 { q as u16 } else { 2000 }
 }
 
-// A sum of products over the energy of `n` samples, in permille, corrected for the overlap of n - lag. The sign is put back last: a
-// division would first branch on it.
+// A sum of products over the energy of `n` samples, in permille, corrected for the overlap of n - lag. The sign is put back last, since
+// those of noise come at random and a branch on them is a guess.
 fn rho(r: i64, e: Energy, n: usize, lag: usize) -> i32
     requires { ⌜ (natAbs r ≤ e .sum) × Scaled n e × (lag < n) × (n ≤ 512) ⌝ }
     ensures { λ q. ⌜ q ≡ rhoOf r (e .sum) n lag ⌝ }

@@ -72,7 +72,7 @@ fn conditions(frames: usize, rounds: usize) {
     println!("the Rust: new detectors, and for each sample the calls that docs/SPEC.md composes");
     println!("built: both at optimisation level 3, no processor named");
     println!("timed: one process, by turns, {rounds} rounds; medians, and the range of the ratios");
-    println!("answers: compared before, all equal");
+    println!("answers: compared before; one that differs ends this");
 }
 
 /// Our unit with its memory.

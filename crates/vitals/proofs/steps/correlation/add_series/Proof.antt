@@ -1,7 +1,5 @@
 -- `add_series` meets its contract. Assumes nothing.
 use mathlib.Core.Path.{refl, sym, _∙_}
-use Prim.Native.Nat.{_≤_}
-use native.Mathlib.Omega.{arith}
 use borrow.Author.Needs.{needs}
 use Rattle.vitals.proofs.steps.correlation.add_series.Statement.{statement}
 use Rattle.vitals.proofs.steps.correlation.add_series.Tie as tie

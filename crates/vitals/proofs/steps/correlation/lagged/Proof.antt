@@ -12,7 +12,7 @@ use Rattle.num.proofs.Dot.{dot-all, dot-front}
 use Rattle.num.proofs.Parts.{part-lent}
 use Rattle.num.proofs.Read.{read-32-64}
 use Rattle.vitals.specs.Correlation.{energy, lagged}
-use Rattle.vitals.proofs.Lagged.{sums-fit, zeros-from, lagged-size, energy-size}
+use Rattle.vitals.proofs.Lagged.{sums-fit, zeros-from, lagged-size}
 use Rattle.vitals.proofs.steps.correlation.lagged.Statement.{statement}
 use Rattle.vitals.proofs.steps.correlation.lagged.Tie as tie
 
@@ -51,7 +51,7 @@ returns c =
     let f : SFits w32 (c .dot-blocks .result) = sfits-of (c .dot-blocks .ok) in
     let e : c .dot-blocks .result ≡ lagged (take (a .n) x) (a .lag) =
     c .dot-blocks .ensures ∙ ap (dotZ (take (a .n - a .lag) x)) (part-lent (a .lag) x) ∙ dot-front (a .n) (a .lag) x (omega arith) in
-    rw (toZ-ofZ f, read-32-64 f, e) (refl, omega (arith, lagged-size (take (a .n) x) (a .lag), energy-size (a .n) x (start .pre .0) (start .pre .2)))
+    rw (toZ-ofZ f, read-32-64 f, e) (refl, omega (arith, lagged-size (take (a .n) x) (a .lag), start .pre .3))
 
 sub-dot-i16 : tie.Need-sub-dot-i16
 sub-dot-i16 c = search needs
@@ -91,7 +91,7 @@ returns-2 c =
     toZ-ofZ (sfits-of (c .dot-i16 .ok)) ∙ c .dot-i16 .ensures
     ∙ dot-all maxTerms (take (a .n - a .lag - 0) x) (take (length x - a .lag) (drop (a .lag) x)) (omega (arith, length-take (a .n - a .lag - 0) x))
     ∙ rw (z, part-lent (a .lag) x) (dot-front (a .n) (a .lag) x (omega arith)) in
-    rw e (refl, omega (arith, lagged-size (take (a .n) x) (a .lag), energy-size (a .n) x (start .pre .0) (start .pre .2)))
+    rw e (refl, omega (arith, lagged-size (take (a .n) x) (a .lag), start .pre .3))
 
 pub lagged-spec : {M : Type 1} → statement M
 lagged-spec =

@@ -1,6 +1,6 @@
 -- `share` meets its contract: a comparison tells which of the two the product gave. Assumes nothing.
 use mathlib.Core.Path.{_≡_}
-use Prim.Native.Nat.{ℕ, zero, suc, _+_, _-_, _*_, _/_, _^_, _≤_, _<_}
+use Prim.Native.Nat.{ℕ, zero, suc, _-_, _*_, _/_, _^_, _≤_, _<_}
 use native.Mathlib.Nat.{zero-mul, mul-le-mul, div-le-of-le-mul}
 use native.Mathlib.Omega.{arith}
 use borrow.Author.Needs.{needs}
