@@ -1,7 +1,7 @@
 # make help          this list
-# make run           the lines of a sample stream: 5 minutes on a new clone, since they are proved first, then 2 seconds
-# make test          the gate: proofs, edits that must fail, recorded cases, tests, comparisons, pace: under an hour
-# make library       target/staticlib/libvolkjarp.a, all calls for C and Rust: 8 minutes on a new clone, then a second
+# make run           the lines of a sample stream: 5 to 8 minutes on a new clone, since they are proved first, then 2 seconds
+# make test          the gate: proofs, edits that must fail, recorded cases, tests, comparisons, pace: 45 to 70 minutes
+# make library       target/staticlib/libvolkjarp.a, all calls for C and Rust: 8 to 12 minutes on a new clone, then a second
 # make header        the library from C: layouts, every call, the example: 5 seconds beside the library
 # make gateway       the tests of the Rust crate: 10 seconds beside the library
 # make dist          dist/, what a gateway needs: library, header, the crate's sources, checksums: a second beside the library
