@@ -5,3 +5,4 @@ pub mod Reset
 pub mod Even
 pub mod InWords
 pub mod Taken
+pub mod Order

@@ -5,3 +5,4 @@ pub mod Detector
 pub mod Calls
 pub mod Words
 pub mod Promises
+pub mod Order

@@ -1,13 +1,12 @@
--- A window of angles has no order: its wander is the same for every order of its frames, repeated ones counted as often as they occur (`Long n`: all
--- frames have n entries, as those of a detector's window have). Assumes nothing.
-use mathlib.Core.Path.{_≡_}
-use mathlib.Core.List.{List, List·Permᴰ}
-use Prim.Native.Nat.{ℕ}
-use Rattle.window.specs.Window.{Long}
-use Rattle.window.proofs.Mean.{mean-no-order}
+-- A window of angles has no order: whatever a detector saw before, the wander that it tells is the same for every order of its last w frames.
+-- Assumes nothing.
+use Rattle.window.proofs.Order.{sums-have-no-order, mean-has-no-order}
+use Rattle.detector.specs.Order.{NoOrder}
+use Rattle.detector.proofs.Order.{no-order-by}
 use Rattle.vectors.specs.Vector.{columnPpm}
-use Rattle.phase_detector.specs.Wander.{angles, windowPpm}
+use Rattle.phase_detector.specs.Wander.{angles}
+use Rattle.phase_detector.specs.Phase.{phaseKind}
 use Rattle.phase_detector.proofs.Angles.{lawful}
 
-pub no-order : {n : ℕ} {window other : List (List ℕ)} → Long n window → List·Permᴰ window other → windowPpm window ≡ windowPpm other
-no-order long p = mean-no-order angles lawful columnPpm long p
+pub no-order : NoOrder phaseKind
+no-order = no-order-by phaseKind (mean-has-no-order angles (sums-have-no-order angles lawful) columnPpm)

@@ -7,5 +7,6 @@ pub mod Round
 pub mod Write
 pub mod Check
 pub mod Mean
+pub mod Order
 pub mod Fixed
 pub mod Pushed

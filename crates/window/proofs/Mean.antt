@@ -1,17 +1,17 @@
--- The mean over the columns: of a full window it is that of the carried sums, and it does not depend on the order of the rows. Assumes nothing.
-use mathlib.Core.Path.{_≡_, refl, sym, ap, _∙_}
-use mathlib.Core.List.{List, [], _∷_, List·Permᴰ, List·Permᴰ·nil, List·Permᴰ·cons, List·Permᴰ·swap, List·Permᴰ·trans}
+-- The mean over the columns: of a full window it is that of the carried sums. Assumes nothing.
+use mathlib.Core.Path.{_≡_, refl, ap}
+use mathlib.Core.List.{List}
 use Prim.Native.Nat.{ℕ, zero, suc, _+_, _*_, _/_, _<_, _≤_, zero-le}
 use native.Mathlib.Nat.{div-le-of-le-mul, suc-mul}
 use native.Mathlib.Numerals.{add-one}
 use native.Mathlib.Omega.{arith}
 use lib.ListN.{length, getD}
 use Rattle.window.specs.Words.{words}
-use Rattle.window.specs.Window.{windowOf, ringRows, width, Long}
+use Rattle.window.specs.Window.{windowOf, ringRows, Long}
 use Rattle.window.specs.Sums.{Summing, Lawful, Ring, columnSum, sumTo, carriedMean, windowMean}
 use Rattle.window.proofs.Rows.{length-cut}
 use Rattle.window.proofs.Ring.{length-ring-row}
-use Rattle.window.proofs.View.{column-perm, window-total, window-width, length-window}
+use Rattle.window.proofs.View.{window-total, window-width, length-window}
 
 pub sumTo-more : (n : ℕ) (g : ℕ → ℕ) → sumTo (n + 1) g ≡ sumTo n g + g n
 unfolding sumTo
@@ -29,45 +29,11 @@ unfolding sumTo
 sumTo-le zero m g h = zero-le
 sumTo-le (suc n) m g h = omega (arith, suc-mul n m, sumTo-le n m g (λ k l. h k (omega arith)), h n (omega arith))
 
-pub length-perm : {window other : List (List ℕ)} → List·Permᴰ window other → length window ≡ length other
-length-perm List·Permᴰ·nil = refl
-length-perm (List·Permᴰ·cons e p) = ap suc (length-perm p)
-length-perm (List·Permᴰ·swap d e) = refl
-length-perm (List·Permᴰ·trans p q) = length-perm p ∙ length-perm q
-
--- rows in another order are as wide
-long-perm : {n : ℕ} {window other : List (List ℕ)} → List·Permᴰ window other → Long n window → Long n other
-long-perm List·Permᴰ·nil long i h = long i h
-long-perm (List·Permᴰ·cons e p) long zero h = rw (← e) (long 0 (omega arith))
-long-perm (List·Permᴰ·cons e p) long (suc i) h = long-perm p (λ j k. long (suc j) (omega arith)) i (omega arith)
-long-perm (List·Permᴰ·swap d e) long zero h = rw (← e) (long 1 (omega arith))
-long-perm (List·Permᴰ·swap d e) long (suc zero) h = rw (← d) (long 0 (omega arith))
-long-perm (List·Permᴰ·swap d e) long (suc (suc i)) h = long (suc (suc i)) (omega arith)
-long-perm (List·Permᴰ·trans p q) long i h = long-perm q (long-perm p long) i h
-
-pub width-perm : {n : ℕ} {window other : List (List ℕ)} → List·Permᴰ window other → Long n window → width window ≡ width other
-width-perm {n} {window} {other} p long = go window other (length-perm p) long (long-perm p long)
-  where
-    go : (xs ys : List (List ℕ)) → length xs ≡ length ys → Long n xs → Long n ys → width xs ≡ width ys
-    go [] [] e lx ly = refl
-    go [] (y ∷ ys) e lx ly = absurd (omega arith)
-    go (x ∷ xs) [] e lx ly = absurd (omega arith)
-    go (x ∷ xs) (y ∷ ys) e lx ly = lx 0 (omega arith) ∙ sym (ly 0 (omega arith))
-
 -- every row of a ring has c entries
 pub ring-long : (w c : ℕ) (bytes : List ℕ) → length bytes ≡ 2 * (w * c) → Long c (ringRows w c bytes)
 ring-long w c bytes whole i h = length-ring-row w c bytes whole i (rw (length-cut w c (words bytes)) at h)
 
 module _ (S : Summing) (lawful : Lawful S) (term : ℕ → S .Number → S .Number → ℕ) where
-  -- A WINDOW HAS NO ORDER. Repeated rows count as often as they occur; the rows of a window are equally wide
-  pub mean-no-order : {n : ℕ} {window other : List (List ℕ)} → Long n window → List·Permᴰ window other → windowMean S term window ≡ windowMean S term other
-  unfolding windowMean
-  mean-no-order {n} {window} {other} long p =
-      rw (length-perm p, width-perm p long)
-      (ap (λ (t : ℕ). t / width other)
-      (sumTo-same (width other) (λ sc. term (length other) (columnSum S (S .f) window sc) (columnSum S (S .g) window sc)) (λ sc. term (length other) (columnSum S (S .f) other sc) (columnSum S (S .g) other sc))
-      (λ k h. rw (column-perm S lawful (S .f) p k, column-perm S lawful (S .g) p k))))
-
   -- the carried sums give the mean of a full window, from whichever slot it starts
   pub mean-carried : {w c : ℕ} {bytes : List ℕ} {fs gs : List (S .Number)} → Ring S w c bytes fs gs → (next n : ℕ) → n ≤ c → 0 < w
       → carriedMean S term w n fs gs ≡ windowMean S term (windowOf next w n (ringRows w c bytes))

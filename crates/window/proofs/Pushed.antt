@@ -1,10 +1,11 @@
 -- A window after a push: one row more, up to w, and rows of one length stay so. Assumes nothing.
-use mathlib.Core.Path.{_≡_}
+use mathlib.Core.Path.{_≡_, sym, ap}
 use mathlib.Core.List.{List, [], _∷_, _++_}
 use Prim.Native.Nat.{ℕ, zero, suc, _+_, _-_, _≤_, min}
 use native.Mathlib.Omega.{arith}
-use lib.ListN.{length, length-append, length-drop}
-use Rattle.window.specs.Window.{pushRow, Long}
+use lib.ListN.{length, drop, length-append, length-drop, drop-of-length-le}
+use lib.Seq.{drop-append-le, drop-drop}
+use Rattle.window.specs.Window.{pushRow, lastOf, Long}
 use Rattle.window.proofs.View.{long-drop, long-append}
 
 module _ (w : ℕ) (window : List (List ℕ)) (row : List ℕ) where
@@ -20,3 +21,28 @@ module _ (w : ℕ) (window : List (List ℕ)) (row : List ℕ) where
       one : Long n (row ∷ [])
       one zero h = e
       one (suc i) h = absurd (omega arith)
+
+  -- the window then is the last w of the rows
+  pub push-last : pushRow w window row ≡ lastOf w (window ++ (row ∷ []))
+  unfolding pushRow
+  push-last = ap (λ (k : ℕ). drop (k - w) (window ++ (row ∷ []))) (sym (length-append window (row ∷ [])))
+
+module _ {A : Type 0} (w : ℕ) where
+  -- what went before the last w makes no difference
+  pub last-of-last : (l m : List A) → lastOf w (lastOf w l ++ m) ≡ lastOf w (l ++ m)
+  last-of-last l m =
+      let k : ℕ = length l - w in
+      let whole : length (l ++ m) ≡ length l + length m = length-append l m in
+      let skipped : k + (length (drop k (l ++ m)) - w) ≡ length (l ++ m) - w = omega (arith, length-drop k (l ++ m)) in
+      rw (sym (drop-append-le k l m (omega arith)), drop-drop (length (drop k (l ++ m)) - w) k (l ++ m), skipped)
+
+  pub last-behind : (l m : List A) → length m ≡ w → lastOf w (l ++ m) ≡ m
+  last-behind l m e =
+      let k : length (l ++ m) - w ≡ length l = omega (arith, length-append l m) in
+      rw (k, drop-append-le (length l) l m (omega arith), drop-of-length-le l {i = length l} (omega arith))
+
+  pub last-few : (l : List A) → length l ≤ w → lastOf w l ≡ l
+  last-few l h = let k : length l - w ≡ 0 = omega arith in rw k
+
+  pub last-most : (l : List A) → length (lastOf w l) ≤ w
+  last-most l = omega (arith, length-drop (length l - w) l)

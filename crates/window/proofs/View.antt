@@ -8,8 +8,8 @@ use native.Mathlib.Numerals.{add-one}
 use native.Mathlib.Decide.{decLt}
 use native.Mathlib.Omega.{arith}
 use lib.ListN.{length, take, drop, getD, set, length-set, length-map, length-append, length-take, length-drop, take-append-drop, drop-of-length-le}
-use lib.Seq.{getD-take, getD-drop, take-nil, length-take-le, drop-cons, drop-set-lt, take-suc-set, take-all, drop-append-le, drop-drop}
-use Rattle.num.proofs.Lists.{drop-map}
+use lib.Seq.{getD-take, getD-drop, length-take-le, drop-cons, drop-set-lt, take-suc-set, take-all, drop-append-le, drop-drop}
+use Rattle.num.proofs.Lists.{drop-map, map-at}
 use Rattle.window.specs.Window.{column, pushRow, windowOf, nextSlot, filledAfter, Long}
 use Rattle.window.specs.Sums.{Summing, Lawful, columnSum}
 use Rattle.window.proofs.Totals.{total-perm}
@@ -136,16 +136,16 @@ long-append c (x ∷ xs) ys lx ly zero h = lx 0 (omega arith)
 long-append c (x ∷ xs) ys lx ly (suc i) h = long-append c xs ys (λ j k. lx (suc j) (omega arith)) ly i (omega arith)
 
 -- the rows of a window have n entries
-pub window-width : (next filled n c : ℕ) (rows : List (List ℕ)) → Long c rows → n ≤ c → 0 < filled → filled ≤ length rows → length (getD (windowOf next filled n rows) 0 []) ≡ n
+long-taken : (n c : ℕ) (rows : List (List ℕ)) → n ≤ c → Long c rows → Long n (map (take n) rows)
+long-taken n c rows narrow long i h =
+    let k : i < length rows = omega (arith, length-map rows (take n)) in
+    rw (map-at (take n) rows i [] [] k) (length-take-le n (getD rows i []) (omega (arith, long i k)))
+
+pub window-long : (next filled n c : ℕ) (rows : List (List ℕ)) → Long c rows → n ≤ c → Long n (windowOf next filled n rows)
 unfolding windowOf
-window-width next filled n c rows long narrow some most =
-    let last : List (List ℕ) = lastRows next filled rows in
-    let first : length (getD last 0 []) ≡ c =
-    long-drop c (length rows - filled) (rotated next rows) (long-append c (drop next rows) (take next rows) (long-drop c next rows long) (long-take c next rows long)) 0
-    (omega (arith, length-last next filled rows most)) in
-    let at : getD (map (take n) last) 0 [] ≡ take n (getD last 0 []) = first-of last in
-    rw at (length-take-le n (getD last 0 []) (omega arith))
-  where
-    first-of : (xs : List (List ℕ)) → getD (map (take n) xs) 0 [] ≡ take n (getD xs 0 [])
-    first-of [] = sym (take-nil n)
-    first-of (x ∷ xs) = refl
+window-long next filled n c rows long narrow =
+    long-taken n c (lastRows next filled rows) narrow
+    (long-drop c (length rows - filled) (rotated next rows) (long-append c (drop next rows) (take next rows) (long-drop c next rows long) (long-take c next rows long)))
+
+pub window-width : (next filled n c : ℕ) (rows : List (List ℕ)) → Long c rows → n ≤ c → 0 < filled → filled ≤ length rows → length (getD (windowOf next filled n rows) 0 []) ≡ n
+window-width next filled n c rows long narrow some most = window-long next filled n c rows long narrow 0 (omega (arith, length-window next filled n rows most))

@@ -1,3 +1,4 @@
 pub mod Words
 pub mod Window
 pub mod Sums
+pub mod Order

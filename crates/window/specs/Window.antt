@@ -36,6 +36,10 @@ width window = length (getD window 0 [])
 abbrev pub Long : ℕ → List (List ℕ) → Type 0
 Long c rows = (i : ℕ) → i < length rows → length (getD rows i []) ≡ c
 
+-- the last w of a list, or all of it where it has fewer
+abbrev pub lastOf : {A : Type 0} → ℕ → List A → List A
+lastOf w l = drop (length l - w) l
+
 -- one row more, and the oldest gone where there were w
 unfoldable pub pushRow : ℕ → List (List ℕ) → List ℕ → List (List ℕ)
 pushRow w window row = drop (length window + 1 - w) (window ++ (row ∷ []))

@@ -1,0 +1,134 @@
+-- A window has no order: a detector tells the wander of its last w frames, whatever it saw before, and that does not depend on their order.
+-- Assumes nothing.
+use mathlib.Core.Path.{_≡_, refl, sym, ap, _∙_}
+use mathlib.Core.Bool.{Bool, true, false, cond, not}
+use mathlib.Core.List.{List, [], _∷_, _++_, append-assoc, append-nil}
+use Prim.Native.Nat.{ℕ, suc, _+_, _≤_, _<_}
+use native.Mathlib.Omega.{arith}
+use borrow.Author.Tests.{eqb-true, ne-eqb, ltb-true}
+use lib.Dec.{eqb, ltb}
+use lib.ListN.{length, length-map}
+use Rattle.window.specs.Words.{words}
+use Rattle.window.specs.Window.{pushRow, lastOf, width, Long, ringRows, windowOf}
+use Rattle.window.specs.Order.{HasNoOrder}
+use Rattle.window.proofs.Pushed.{long-push, push-last, last-of-last, last-behind, last-few, last-most}
+use Rattle.window.proofs.View.{window-long}
+use Rattle.window.proofs.Mean.{ring-long}
+use Rattle.window.proofs.Order.{length-reordered, long-reordered}
+use Rattle.detector.specs.Decision.{presentAfter, lastAfter}
+use Rattle.detector.specs.Detector.{Kind, Detector, Valid, Pushes, judged, changed, startFor, withFrame, restart, pushFrame, detectorOf}
+use Rattle.detector.specs.Order.{Push, framesOf, pushAll, Level, TellTheSame, AllPushed, no-more, and-then, NoOrder}
+use Rattle.detector.specs.declared.Limits.{Limits}
+use Rattle.detector.specs.declared.State.{State}
+use Rattle.detector.proofs.Even.{Even, even-pushed, pushed-window, long-window}
+
+module _ (wanderOf : List (List ℕ) → ℕ) (w : ℕ) where
+  -- ---- a full window is told by its wander
+
+  abbrev Told : Detector → Type 0
+  Told d = length (d .window) ≡ w → d .wander ≡ wanderOf (d .window)
+
+  told-judged : (lim : Limits) (now : ℕ) (d : Detector) → Told (judged wanderOf lim w now d)
+  told-judged lim now d = go (ltb (length (d .window)) w) refl (presentAfter lim now (wanderOf (d .window)) (d .present) (d .last)) (lastAfter lim now (wanderOf (d .window)) (d .last))
+    where
+      go : (b : Bool) → ltb (length (d .window)) w ≡ b → (p : Bool) (l : ℕ)
+          → Told (cond b d (record { window = d .window; wander = wanderOf (d .window); present = p; last = l }))
+      go true e p l full = absurd (omega (arith, ltb-true (length (d .window)) w e))
+      go false e p l full = refl
+
+  told-pushed : (d : Detector) (p : Push) → 1 ≤ length (p .frame) → Told (pushFrame wanderOf (p .lim) w d (p .frame) (p .now))
+  unfolding pushFrame
+  told-pushed d p some = rw (ne-eqb (length (p .frame)) 0 (λ z. omega arith)) (told-judged (p .lim) (p .now) (withFrame w (startFor d (p .frame)) (p .frame)))
+
+  -- ---- the frames of a window after pushes
+
+  -- a frame starts a window of its own length, whatever the detector saw before
+  start-long : (n : ℕ) (d : Detector) (frame : List ℕ) → Level d → length frame ≡ n → Long n (startFor d frame .window)
+  start-long n d frame level e = go (eqb (length (d .window)) 0) (eqb (width (d .window)) (length frame)) refl refl
+    where
+      go : (a b : Bool) → eqb (length (d .window)) 0 ≡ a → eqb (width (d .window)) (length frame) ≡ b → Long n (cond (cond a false (not b)) (restart d) d .window)
+      go true b h k i l = absurd (omega (arith, eqb-true (length (d .window)) 0 h))
+      go false true h k i l = level i l ∙ eqb-true (width (d .window)) (length frame) k ∙ e
+      go false false h k i l = absurd (omega arith)
+
+  first-even : (n : ℕ) (d : Detector) (p : Push) → Level d → 1 ≤ n → length (p .frame) ≡ n → Even w n (pushFrame wanderOf (p .lim) w d (p .frame) (p .now))
+  first-even n d p level some e =
+      let start : List (List ℕ) = startFor d (p .frame) .window in
+      let then = pushed-window wanderOf (p .lim) w d (p .frame) (p .now) (omega arith) in
+      record {
+        few = rw (then, push-last w start (p .frame)) (last-most w (start ++ (p .frame ∷ [])));
+        long = rw then (long-push w start (p .frame) n (start-long n d (p .frame) level e) e);
+      }
+
+  all-window : (n : ℕ) (d : Detector) (ps : List Push) → Even w n d → 1 ≤ n → Long n (framesOf ps)
+      → pushAll wanderOf w d ps .window ≡ lastOf w (d .window ++ framesOf ps)
+  unfolding pushAll
+  all-window n d [] v some long = sym (ap (lastOf w) (append-nil (d .window)) ∙ last-few w (d .window) (v .few))
+  all-window n d (p ∷ ps) v some long =
+      let e : length (p .frame) ≡ n = long 0 (omega arith) in
+      let d′ : Detector = pushFrame wanderOf (p .lim) w d (p .frame) (p .now) in
+      all-window n d′ ps (even-pushed wanderOf (p .lim) w n d (p .frame) (p .now) v some e) some (λ i h. long (suc i) (omega arith))
+      ∙ rw (long-window wanderOf (p .lim) w n d (p .frame) (p .now) (v .long) some e, push-last w (d .window) (p .frame), last-of-last w (d .window ++ (p .frame ∷ [])) (framesOf ps), append-assoc (d .window) (p .frame ∷ []) (framesOf ps))
+
+  all-told : (n : ℕ) (d : Detector) (ps : List Push) → Told d → 1 ≤ n → Long n (framesOf ps) → Told (pushAll wanderOf w d ps)
+  unfolding pushAll
+  all-told n d [] t some long = t
+  all-told n d (p ∷ ps) t some long =
+      all-told n (pushFrame wanderOf (p .lim) w d (p .frame) (p .now)) ps (told-pushed d p (omega (arith, long 0 (omega arith)))) some (λ i h. long (suc i) (omega arith))
+
+  pub tells-the-last : (n : ℕ) (d : Detector) (ps : List Push) → 1 ≤ w → Level d → 1 ≤ n → length ps ≡ w → Long n (framesOf ps)
+      → pushAll wanderOf w d ps .wander ≡ wanderOf (framesOf ps)
+  unfolding pushAll
+  tells-the-last n d [] one level some full long = absurd (omega arith)
+  tells-the-last n d (p ∷ ps) one level some full long =
+      let e : length (p .frame) ≡ n = long 0 (omega arith) in
+      let rest : Long n (framesOf ps) = λ i h. long (suc i) (omega arith) in
+      let d′ : Detector = pushFrame wanderOf (p .lim) w d (p .frame) (p .now) in
+      let start : List (List ℕ) = startFor d (p .frame) .window in
+      let window : pushAll wanderOf w d′ ps .window ≡ framesOf (p ∷ ps) =
+      all-window n d′ ps (first-even n d p level some e) some rest
+      ∙ rw (pushed-window wanderOf (p .lim) w d (p .frame) (p .now) (omega arith), push-last w start (p .frame), last-of-last w (start ++ (p .frame ∷ [])) (framesOf ps), append-assoc start (p .frame ∷ []) (framesOf ps))
+      (last-behind w start (framesOf (p ∷ ps)) (length-map (p ∷ ps) (λ (q : Push). q .frame) ∙ full)) in
+      all-told n d′ ps (told-pushed d p (omega arith)) some rest (ap length window ∙ length-map (p ∷ ps) (λ (q : Push). q .frame) ∙ full) ∙ ap wanderOf window
+
+-- ---- no order
+
+tell-the-same : (wanderOf : List (List ℕ) → ℕ) → HasNoOrder wanderOf → TellTheSame wanderOf
+tell-the-same wanderOf no-order w n d e ps qs one of-d of-e same =
+    let fs : List (List ℕ) = framesOf ps in
+    let gs : List (List ℕ) = framesOf qs in
+    let full : length qs ≡ w =
+    sym (length-map qs (λ (q : Push). q .frame)) ∙ sym (length-reordered fs gs (same .reordered)) ∙ length-map ps (λ (p : Push). p .frame) ∙ same .full in
+    tells-the-last wanderOf w n d ps one of-d (same .some) (same .full) (same .long)
+    ∙ no-order n fs gs (same .long) (same .reordered)
+    ∙ sym (tells-the-last wanderOf w n e qs one of-e (same .some) full (long-reordered n fs gs (same .reordered) (same .long)))
+
+module _ (K : Kind) (w c : ℕ) where
+  -- the frames of the window that a valid state stands for are as long as its count
+  valid-level : (s : State) (bytes : List ℕ) (fs gs : List (K .sums .Number)) → Valid K w c s bytes fs gs → Level (detectorOf s (ringRows w c bytes))
+  unfolding detectorOf
+  valid-level s bytes fs gs v i h =
+      let long : Long (s .count) (windowOf (s .next) (s .filled) (s .count) (ringRows w c bytes)) =
+      window-long (s .next) (s .filled) (s .count) c (ringRows w c bytes) (ring-long w c bytes (v .ring .whole)) (v .placed .narrow) in
+      long i h ∙ sym (long 0 (omega arith))
+
+  -- calls push on the detector that their state stands for
+  as-pushed : {ps : List Push} {s s′ : State} {bytes bytes′ : List ℕ} → AllPushed K w c ps s bytes s′ bytes′
+      → s′ .wander ≡ pushAll (K .wanderOf) w (detectorOf s (ringRows w c bytes)) ps .wander
+  unfolding detectorOf pushAll
+  as-pushed no-more = refl
+  as-pushed {ps = p ∷ ps} (and-then new count fs gs verdict e pushes rest) =
+      as-pushed rest ∙ ap (λ (d : Detector). pushAll (K .wanderOf) w d ps .wander) (rw e (pushes .detector))
+
+pub no-order-by : (K : Kind) → HasNoOrder (K .wanderOf) → NoOrder K
+no-order-by K no-order =
+    record {
+      windows = no-order;
+      last-frames = λ w n d ps. tells-the-last (K .wanderOf) w n d ps;
+      detectors = tell-the-same (K .wanderOf) no-order;
+      calls = λ w c n ps qs s s′ t t′ bytes bytes′ other other′ fs gs hs ks v all x also same.
+          as-pushed K w c all
+          ∙ tell-the-same (K .wanderOf) no-order w n (detectorOf s (ringRows w c bytes)) (detectorOf t (ringRows w c other)) ps qs (omega (arith, v .placed .slot))
+          (valid-level K w c s bytes fs gs v) (valid-level K w c t other hs ks x) same
+          ∙ sym (as-pushed K w c also);
+    }
