@@ -1,23 +1,13 @@
 //! Damaged input through the safe calls: made up at random, the same each time.
 
+mod common;
+
+use common::Random;
 use volkjarp::{
     ANSWER_LEN, Answer, RECORD_LEN, Record, Refusal, Room, Sample, Settings, whole_len,
 };
 
-struct Random(u64);
-
 impl Random {
-    fn word(&mut self) -> u64 {
-        self.0 ^= self.0 << 13;
-        self.0 ^= self.0 >> 7;
-        self.0 ^= self.0 << 17;
-        self.0.wrapping_mul(0x2545_F491_4F6C_DD1D)
-    }
-
-    fn below(&mut self, end: usize) -> usize {
-        (self.word() >> 33) as usize % end
-    }
-
     fn sample(&mut self) -> Sample {
         let mut word = || self.word() >> 40;
         Sample {

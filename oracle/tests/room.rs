@@ -27,6 +27,44 @@ fn the_example() {
     assert_eq!(lines(&stream), expected);
 }
 
+/// A watched sample of tag 4 with real parts alone: one in the first half, one in the second.
+fn halves(time: u64, first: u8, second: u8) -> Vec<u8> {
+    let mut record = record(WATCH, 4);
+    record[5..13].copy_from_slice(&time.to_le_bytes());
+    for (place, entry) in record[14..].chunks_exact_mut(2).enumerate() {
+        entry[1] = if place < 32 { first } else { second };
+    }
+    record
+}
+
+/// The worked pair of docs/SPEC.md: two orders of one window, the same wander, another verdict.
+#[test]
+fn two_orders() {
+    let last = |second: [u8; 2], third: [u8; 2]| {
+        let stream = [[50, 50], second, third]
+            .into_iter()
+            .zip([0, 20_000, 40_000]);
+        let stream = stream.flat_map(|([a, b], time)| halves(time, a, b));
+        let settings = Settings {
+            w: 2,
+            ..Settings::roomlines()
+        };
+        let (answers, _) = PlainRoom::new(settings).run(&stream.collect::<Vec<_>>(), usize::MAX);
+        [1, 2].map(|k| answers[k].to_string())
+    };
+    assert_eq!(
+        last([51, 49], [54, 46]),
+        ["watch absent 0 9 0 - - - 0", "watch absent 0 29 0 - - - 0"]
+    );
+    assert_eq!(
+        last([54, 46], [51, 49]),
+        [
+            "watch present 39 39 0 - - - 0",
+            "watch present 29 29 0 - - - 0"
+        ]
+    );
+}
+
 #[test]
 fn beginnings() {
     let settings = Settings::roomlines();

@@ -3,24 +3,23 @@
 use mathlib.Core.Path.{_≡_, refl, sym, ap, _∙_}
 use mathlib.Core.Bool.{Bool, true, false, cond, not}
 use mathlib.Core.List.{List, [], _∷_, _++_, append-assoc, append-nil}
-use Prim.Native.Nat.{ℕ, suc, _+_, _≤_, _<_}
+use Prim.Native.Nat.{ℕ, suc, _≤_}
 use native.Mathlib.Omega.{arith}
 use borrow.Author.Tests.{eqb-true, ne-eqb, ltb-true}
 use lib.Dec.{eqb, ltb}
 use lib.ListN.{length, length-map}
-use Rattle.window.specs.Words.{words}
-use Rattle.window.specs.Window.{pushRow, lastOf, width, Long, ringRows, windowOf}
+use Rattle.window.specs.Window.{lastOf, width, Long, ringRows, windowOf}
 use Rattle.window.specs.Order.{HasNoOrder}
-use Rattle.window.proofs.Pushed.{long-push, push-last, last-of-last, last-behind, last-few, last-most}
+use Rattle.window.proofs.Pushed.{long-push, push-last, last-of-last, last-behind, last-few, last-most, last-full}
 use Rattle.window.proofs.View.{window-long}
 use Rattle.window.proofs.Mean.{ring-long}
 use Rattle.window.proofs.Order.{length-reordered, long-reordered}
 use Rattle.detector.specs.Decision.{presentAfter, lastAfter}
-use Rattle.detector.specs.Detector.{Kind, Detector, Valid, Pushes, judged, changed, startFor, withFrame, restart, pushFrame, detectorOf}
+use Rattle.detector.specs.Detector.{Kind, Detector, newDetector, Valid, judged, startFor, withFrame, restart, pushFrame, detectorOf}
 use Rattle.detector.specs.Order.{Push, framesOf, pushAll, Level, TellTheSame, AllPushed, no-more, and-then, NoOrder}
 use Rattle.detector.specs.declared.Limits.{Limits}
 use Rattle.detector.specs.declared.State.{State}
-use Rattle.detector.proofs.Even.{Even, even-pushed, pushed-window, long-window}
+use Rattle.detector.proofs.Even.{Even, even-new, even-pushed, pushed-window, long-window}
 
 module _ (wanderOf : List (List ℕ) → ℕ) (w : ℕ) where
   -- ---- a full window is told by its wander
@@ -90,6 +89,13 @@ module _ (wanderOf : List (List ℕ) → ℕ) (w : ℕ) where
       ∙ rw (pushed-window wanderOf (p .lim) w d (p .frame) (p .now) (omega arith), push-last w start (p .frame), last-of-last w (start ++ (p .frame ∷ [])) (framesOf ps), append-assoc start (p .frame ∷ []) (framesOf ps))
       (last-behind w start (framesOf (p ∷ ps)) (length-map (p ∷ ps) (λ (q : Push). q .frame) ∙ full)) in
       all-told n d′ ps (told-pushed d p (omega arith)) some rest (ap length window ∙ length-map (p ∷ ps) (λ (q : Push). q .frame) ∙ full) ∙ ap wanderOf window
+
+  -- a new one tells that of the last w of all frames
+  pub tells-the-last-of-all : (n : ℕ) (ps : List Push) → 1 ≤ w → 1 ≤ n → w ≤ length ps → Long n (framesOf ps)
+      → pushAll wanderOf w newDetector ps .wander ≡ wanderOf (lastOf w (framesOf ps))
+  tells-the-last-of-all n ps one some enough long =
+      let window : pushAll wanderOf w newDetector ps .window ≡ lastOf w (framesOf ps) = all-window n newDetector ps (even-new w n) some long in
+      all-told n newDetector ps (λ none. absurd (omega arith)) some long (ap length window ∙ last-full w (framesOf ps) (omega (arith, length-map ps (λ (p : Push). p .frame)))) ∙ ap wanderOf window
 
 -- ---- no order
 

@@ -3,6 +3,7 @@ pub mod Samples
 pub mod Sensible
 pub mod Judged
 pub mod Rules
+pub mod Order
 pub mod Demand
 pub mod Runs
 pub mod Bench

@@ -40,11 +40,11 @@ use Rattle.room_memory.proofs.Whole.{Full, stored-loaded, flags-stored, state-l
 use Rattle.room_sensing.specs.Settings.{settingsOf, inRange, legal, memorySize}
 use Rattle.room_sensing.specs.Sensing.{room, Held}
 use Rattle.room_sensing.specs.declared.settings.Settings.{Settings}
-use Rattle.room_sensing.proofs.Judged.{legal-long, legal-ranges}
+use Rattle.room_sensing.proofs.Judged.{legal-long, legal-ranges, Ranged, ranged}
 use Rattle.room_state.specs.Rings.{partAt, ringsOf, rowsLength}
 use Rattle.room_state.specs.State.{freshState, GoodState, isGood}
 use Rattle.room_state.specs.Memory.{newMemory, goodMemory, viewOf, memory}
-use Rattle.room_state.proofs.Told.{Ranged, ranged, good-told}
+use Rattle.room_state.proofs.Told.{good-told}
 use Rattle.room_state.proofs.Restart.{rhythm-new, baseline-new, restarted-new}
 
 abbrev zeros : ℕ → List ℕ

@@ -3,11 +3,9 @@ use mathlib.Core.Path.{_≡_}
 use mathlib.Core.Bool.{Bool, true, _&&_}
 use lib.Dec.{leb}
 use Rattle.num.specs.Tests.{Tells}
-use Rattle.num.proofs.Logic.{both}
 use Rattle.num.proofs.Tests.{tells-iff, tells-both, tells-le}
 use Rattle.window.specs.Window.{columns}
-use Rattle.detector.specs.Calls.{isWindow}
-use Rattle.detector.proofs.Calls.{valid-told, Sized, sized}
+use Rattle.detector.proofs.Calls.{valid-told}
 use Rattle.presence.specs.Presence.{presenceKind}
 use Rattle.phase_detector.specs.Phase.{phaseKind}
 use Rattle.estimator.specs.State as rhythm
@@ -18,19 +16,6 @@ use Rattle.room_sensing.specs.Settings.{inRange}
 use Rattle.room_sensing.specs.declared.settings.Settings.{Settings}
 use Rattle.room_state.specs.Rings.{Rings}
 use Rattle.room_state.specs.State.{maxTag, GoodState, windowsGood, numbersGood, isGood}
-
--- settings in range
-pub record Ranged (σ : Settings) : Type 0 where
-  pub window : Sized (σ .w)
-  pub breathing : rhythm.legal (σ .breathing) (σ .n) ≡ true
-  pub heart : rhythm.legal (σ .heart) (σ .n) ≡ true
-
-pub ranged : (σ : Settings) → inRange σ ≡ true → Ranged σ
-unfolding inRange
-ranged σ e =
-    let a = both (isWindow (σ .w)) (rhythm.legal (σ .breathing) (σ .n) && rhythm.legal (σ .heart) (σ .n)) e in
-    let b = both (rhythm.legal (σ .breathing) (σ .n)) (rhythm.legal (σ .heart) (σ .n)) (a .1) in
-    record { window = sized (σ .w) (a .0); breathing = b .0; heart = b .1 }
 
 module _ (σ : Settings) (s : RoomState) (r : Rings) where
   flag : (b : Bool) → Tells b (b ≡ true)

@@ -46,3 +46,6 @@ module _ {A : Type 0} (w : ℕ) where
 
   pub last-most : (l : List A) → length (lastOf w l) ≤ w
   last-most l = omega (arith, length-drop (length l - w) l)
+
+  pub last-full : (l : List A) → w ≤ length l → length (lastOf w l) ≡ w
+  last-full l h = omega (arith, length-drop (length l - w) l)
