@@ -1,5 +1,5 @@
--- A window has no order (docs/SPEC.md): in whatever order the last w frames come, a detector tells the same wander. Its verdict may differ, since it
--- remembers earlier motion. Assumes nothing.
+-- A window has no order (docs/SPEC.md, under this title): a detector tells the same wander in whatever order its last w frames came. Its verdict may
+-- differ, since it remembers earlier motion. Assumes nothing.
 use mathlib.Core.Path.{_≡_}
 use mathlib.Core.List.{List, [], _∷_, map}
 use Prim.Native.Nat.{ℕ, _≤_}

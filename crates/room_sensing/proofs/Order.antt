@@ -8,10 +8,10 @@ use native.Mathlib.Omega.{arith}
 use lib.Dec.{eqb}
 use lib.ListN.{length, length-map}
 use borrow.Author.Tests.{eqb-true}
-use Rattle.num.proofs.Lists.{drop-map}
 use Rattle.window.specs.Window.{Long, lastOf}
 use Rattle.window.specs.Order.{Reordered, HasNoOrder}
 use Rattle.window.proofs.View.{long-drop}
+use Rattle.window.proofs.Pushed.{last-map}
 use Rattle.window.proofs.Order.{reordered-map}
 use Rattle.csi.specs.Features.{featuresOf, normalisedOf, used}
 use Rattle.phase.specs.Phases.{framePhases}
@@ -41,11 +41,6 @@ use Rattle.room_sensing.specs.declared.answer.Watched.{Watched}
 use Rattle.room_sensing.proofs.Samples.{entriesFor, some-entries, length-amplitudes, length-angles}
 use Rattle.room_sensing.proofs.Judged.{legal-ranges, ranged}
 use Rattle.room_sensing.proofs.Sensible.{laws}
-
--- ---- the last of the watched samples
-
-last-map : {A B : Type 0} (f : A → B) (w : ℕ) (l : List A) → lastOf w (map f l) ≡ map f (lastOf w l)
-last-map f w l = rw (length-map l f) (drop-map f (length l - w) l)
 
 -- Of one detector: where it stands in what is held, and what a sample feeds it, by its tag and its I/Q.
 module _ (get : Held → Detector) (wanderOf : List (List ℕ) → ℕ) (lim : Settings → Limits) (entries : (tag : ℕ) → (iq : List ℕ) → List ℕ) where
@@ -85,7 +80,7 @@ module _ (get : Held → Detector) (wanderOf : List (List ℕ) → ℕ) (lim : S
       frames-long (noted n body ∷ L) o i h = frames-long L (o .1) i h
 
       last-frames : (L : List Event) → lastOf (σ .w) (map (entries t) (map iqOf (watchedIn L))) ≡ map (entries t) (lastIq (σ .w) L)
-      last-frames L = last-map (entries t) (σ .w) (map iqOf (watchedIn L)) ∙ ap (map (entries t)) (last-map iqOf (σ .w) (watchedIn L))
+      last-frames L = last-map (σ .w) (entries t) (map iqOf (watchedIn L)) ∙ ap (map (entries t)) (last-map (σ .w) iqOf (watchedIn L))
 
       last-long : (L : List Event) → OfTag room σ t L → Long (entriesFor t) (map (entries t) (lastIq (σ .w) L))
       last-long L o = subst (Long (entriesFor t)) (last-frames L) (long-drop (entriesFor t) (length (map (entries t) (map iqOf (watchedIn L))) - σ .w) (map (entries t) (map iqOf (watchedIn L))) (frames-long L o))

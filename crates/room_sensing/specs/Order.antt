@@ -1,5 +1,5 @@
--- A window has no order (docs/SPEC.md), of the room: from the W-th watched sample since a boundary on, permille and ppm do not depend on the order of
--- the last W. Said of the plain room, whose answers the unit's are. Theorem in proofs/Order.antt. Assumes nothing.
+-- A window has no order (docs/SPEC.md, under this title), of the room: from the W-th watched sample since a boundary on, permille and ppm do not depend
+-- on the order of the last W. Said of the plain room, whose answers the unit's are. Theorem in proofs/Order.antt. Assumes nothing.
 use mathlib.Core.Path.{_≡_}
 use mathlib.Core.List.{List, [], _∷_, map}
 use Prim.Native.Nat.{ℕ, _≤_}

@@ -1,10 +1,11 @@
--- A window after a push: one row more, up to w, and rows of one length stay so. Assumes nothing.
+-- A window after a push: one row more, up to w, and rows of one length stay so; the last w of a list. Assumes nothing.
 use mathlib.Core.Path.{_≡_, sym, ap}
-use mathlib.Core.List.{List, [], _∷_, _++_}
+use mathlib.Core.List.{List, [], _∷_, _++_, map}
 use Prim.Native.Nat.{ℕ, zero, suc, _+_, _-_, _≤_, min}
 use native.Mathlib.Omega.{arith}
-use lib.ListN.{length, drop, length-append, length-drop, drop-of-length-le}
+use lib.ListN.{length, drop, length-map, length-append, length-drop, drop-of-length-le}
 use lib.Seq.{drop-append-le, drop-drop}
+use Rattle.num.proofs.Lists.{drop-map}
 use Rattle.window.specs.Window.{pushRow, lastOf, Long}
 use Rattle.window.proofs.View.{long-drop, long-append}
 
@@ -49,3 +50,6 @@ module _ {A : Type 0} (w : ℕ) where
 
   pub last-full : (l : List A) → w ≤ length l → length (lastOf w l) ≡ w
   last-full l h = omega (arith, length-drop (length l - w) l)
+
+  pub last-map : {B : Type 0} (f : A → B) (l : List A) → lastOf w (map f l) ≡ map f (lastOf w l)
+  last-map f l = rw (length-map l f) (drop-map f (length l - w) l)

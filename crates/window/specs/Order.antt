@@ -1,4 +1,4 @@
--- Rows in another order, and what does not depend on it (document 02, item 5). Assumes nothing.
+-- Rows in another order, and what does not depend on it (docs/SPEC.md, "A window has no order"). Assumes nothing.
 use mathlib.Core.Path.{_≡_}
 use mathlib.Core.Bool.{Bool, true, false, cond, _&&_}
 use mathlib.Core.List.{List, [], _∷_}
