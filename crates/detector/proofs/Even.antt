@@ -23,7 +23,7 @@ pub even-new : (w n : ℕ) → Even w n newDetector
 even-new w n = record { few = omega arith; long = λ i h. absurd (omega arith) }
 
 -- what a window is after a frame that is not empty
-judged-window : (wanderOf : List (List ℕ) → ℕ) (lim : Limits) (w now : ℕ) (x : Detector) → judged wanderOf lim w now x .window ≡ x .window
+pub judged-window : (wanderOf : List (List ℕ) → ℕ) (lim : Limits) (w now : ℕ) (x : Detector) → judged wanderOf lim w now x .window ≡ x .window
 judged-window wanderOf lim w now x =
     let m = wanderOf (x .window) in
     go (ltb (length (x .window)) w) m (presentAfter lim now m (x .present) (x .last)) (lastAfter lim now m (x .last))

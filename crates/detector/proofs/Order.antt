@@ -8,7 +8,7 @@ use native.Mathlib.Omega.{arith}
 use borrow.Author.Tests.{eqb-true, ne-eqb, ltb-true}
 use lib.Dec.{eqb, ltb}
 use lib.ListN.{length, length-map}
-use Rattle.window.specs.Window.{lastOf, width, Long, ringRows, windowOf}
+use Rattle.window.specs.Window.{pushRow, lastOf, width, Long, ringRows, windowOf}
 use Rattle.window.specs.Order.{HasNoOrder}
 use Rattle.window.proofs.Pushed.{long-push, push-last, last-of-last, last-behind, last-few, last-most, last-full}
 use Rattle.window.proofs.View.{window-long}
@@ -19,7 +19,11 @@ use Rattle.detector.specs.Detector.{Kind, Detector, newDetector, Valid, 
 use Rattle.detector.specs.Order.{Push, framesOf, pushAll, Level, TellTheSame, AllPushed, no-more, and-then, NoOrder}
 use Rattle.detector.specs.declared.Limits.{Limits}
 use Rattle.detector.specs.declared.State.{State}
-use Rattle.detector.proofs.Even.{Even, even-new, even-pushed, pushed-window, long-window}
+use Rattle.detector.proofs.Even.{Even, even-new, even-pushed, judged-window, pushed-window, long-window}
+
+-- rows of n entries are as long as the first
+long-level : (n : ℕ) (rows : List (List ℕ)) → Long n rows → Long (width rows) rows
+long-level n rows long i h = long i h ∙ sym (long 0 (omega arith))
 
 module _ (wanderOf : List (List ℕ) → ℕ) (w : ℕ) where
   -- ---- a full window is told by its wander
@@ -49,6 +53,17 @@ module _ (wanderOf : List (List ℕ) → ℕ) (w : ℕ) where
       go true b h k i l = absurd (omega (arith, eqb-true (length (d .window)) 0 h))
       go false true h k i l = level i l ∙ eqb-true (width (d .window)) (length frame) k ∙ e
       go false false h k i l = absurd (omega arith)
+
+  stays-level : (lim : Limits) (d : Detector) (frame : List ℕ) (now : ℕ) → Level d → Level (pushFrame wanderOf lim w d frame now)
+  unfolding pushFrame
+  stays-level lim d frame now level = go (eqb (length frame) 0) refl
+    where
+      go : (b : Bool) → eqb (length frame) 0 ≡ b → Level (cond b d (judged wanderOf lim w now (withFrame w (startFor d frame) frame)))
+      go true e = level
+      go false e =
+          let start : List (List ℕ) = startFor d frame .window in
+          rw (judged-window wanderOf lim w now (withFrame w (startFor d frame) frame))
+          (long-level (length frame) (pushRow w start frame) (long-push w start frame (length frame) (start-long (length frame) d frame level refl) refl))
 
   first-even : (n : ℕ) (d : Detector) (p : Push) → Level d → 1 ≤ n → length (p .frame) ≡ n → Even w n (pushFrame wanderOf (p .lim) w d (p .frame) (p .now))
   first-even n d p level some e =
@@ -113,10 +128,9 @@ module _ (K : Kind) (w c : ℕ) where
   -- the frames of the window that a valid state stands for are as long as its count
   valid-level : (s : State) (bytes : List ℕ) (fs gs : List (K .sums .Number)) → Valid K w c s bytes fs gs → Level (detectorOf s (ringRows w c bytes))
   unfolding detectorOf
-  valid-level s bytes fs gs v i h =
-      let long : Long (s .count) (windowOf (s .next) (s .filled) (s .count) (ringRows w c bytes)) =
-      window-long (s .next) (s .filled) (s .count) c (ringRows w c bytes) (ring-long w c bytes (v .ring .whole)) (v .placed .narrow) in
-      long i h ∙ sym (long 0 (omega arith))
+  valid-level s bytes fs gs v =
+      long-level (s .count) (windowOf (s .next) (s .filled) (s .count) (ringRows w c bytes))
+      (window-long (s .next) (s .filled) (s .count) c (ringRows w c bytes) (ring-long w c bytes (v .ring .whole)) (v .placed .narrow))
 
   -- calls push on the detector that their state stands for
   as-pushed : {ps : List Push} {s s′ : State} {bytes bytes′ : List ℕ} → AllPushed K w c ps s bytes s′ bytes′
@@ -129,6 +143,11 @@ module _ (K : Kind) (w c : ℕ) where
 pub no-order-by : (K : Kind) → HasNoOrder (K .wanderOf) → NoOrder K
 no-order-by K no-order =
     record {
+      level = record {
+        new = λ i h. absurd (omega arith);
+        pushed = λ lim w d frame now. stays-level (K .wanderOf) w lim d frame now;
+        reset = λ d i h. absurd (omega arith);
+      };
       windows = no-order;
       last-frames = λ w n d ps. tells-the-last (K .wanderOf) w n d ps;
       detectors = tell-the-same (K .wanderOf) no-order;

@@ -6,7 +6,7 @@ use Prim.Native.Nat.{ℕ, _≤_}
 use lib.ListN.{length, take}
 use Rattle.window.specs.Window.{width, Long}
 use Rattle.window.specs.Order.{Reordered, HasNoOrder}
-use Rattle.detector.specs.Detector.{Kind, Detector, Valid, Pushes, pushFrame}
+use Rattle.detector.specs.Detector.{Kind, Detector, newDetector, restart, Valid, Pushes, pushFrame}
 use Rattle.detector.specs.declared.Limits.{Limits}
 use Rattle.detector.specs.declared.State.{State}
 use Rattle.detector.specs.declared.Verdict.{Verdict}
@@ -28,6 +28,12 @@ pushAll wanderOf w d (p ∷ ps) = pushAll wanderOf w (pushFrame wanderOf (p .lim
 -- the frames of a detector's window have one length
 abbrev pub Level : Detector → Type 0
 Level d = Long (width (d .window)) (d .window)
+
+-- so it is of every detector: a new one, one after a frame, one after a reset
+pub record AlwaysLevel (wanderOf : List (List ℕ) → ℕ) : Type 0 where
+  pub new : Level newDetector
+  pub pushed : (lim : Limits) (w : ℕ) (d : Detector) (frame : List ℕ) (now : ℕ) → Level d → Level (pushFrame wanderOf lim w d frame now)
+  pub reset : (d : Detector) → Level (restart d)
 
 -- w frames of n entries, in any order
 pub record SameFrames (w n : ℕ) (ps qs : List Push) : Type 0 where
@@ -65,6 +71,7 @@ CallsTellTheSame K =
 
 -- all of it, of one kind of detector
 pub record NoOrder (K : Kind) : Type 1 where
+  pub level : AlwaysLevel (K .wanderOf)
   pub windows : HasNoOrder (K .wanderOf)
   pub last-frames : TellsTheLast (K .wanderOf)
   pub detectors : TellTheSame (K .wanderOf)
