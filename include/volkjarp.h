@@ -265,8 +265,8 @@ struct volkjarp_answer {
     uint8_t verdict; /* VOLKJARP_WARMING .. */
     uint8_t motion;
     uint8_t fall;      /* 1: one is suspected */
-    uint16_t permille; /* wander of the amplitudes */
-    uint32_t ppm;      /* wander of the phases */
+    uint16_t permille; /* wander of the amplitudes of the last W samples, in any order */
+    uint32_t ppm;      /* wander of their phases, in any order too */
     struct volkjarp_rate breathing, heart;
     uint16_t distance; /* from the calibrated room, permille */
 };

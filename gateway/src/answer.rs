@@ -32,9 +32,11 @@ pub enum Answer {
         verdict: Verdict,
         /// How much moves; 0 unless present.
         motion: u8,
-        /// The wander of the amplitudes, in permille; 0 while they warm up.
+        /// The wander of the amplitudes, in permille: of the last W samples, in whatever order they
+        /// came; 0 while they warm up.
         permille: u16,
-        /// The wander of the phases, in parts per million; 0 while they warm up.
+        /// The wander of the phases, in parts per million: of the same samples, in whatever order
+        /// they came; 0 while they warm up.
         ppm: u32,
         /// The breathing rate.
         breathing: Rate,
