@@ -48,9 +48,13 @@ module _ (wanderOf : List (List ℕ) → ℕ) (lim : Limits) (w n : ℕ) (d : De
           let some : 0 < length (d .window) = omega (arith, eqb-false (length (d .window)) 0 h) in
           rw (eq-eqb (width (d .window)) (length frame) (long 0 some ∙ (omega arith)))
 
-  pub long-window : Long n (d .window) → 1 ≤ n → length frame ≡ n → pushFrame wanderOf lim w d frame now .window ≡ pushRow w (d .window) frame
+  -- a frame as long as the window's rows finds them
+  pub kept-window : Long n (d .window) → length frame ≡ n → startFor d frame .window ≡ d .window
+  kept-window long e = ap (λ (b : Bool). cond b (restart d) d .window) (unchanged long e)
+
+  long-window : Long n (d .window) → 1 ≤ n → length frame ≡ n → pushFrame wanderOf lim w d frame now .window ≡ pushRow w (d .window) frame
   long-window long some e =
-      pushed-window wanderOf lim w d frame now (omega arith) ∙ ap (λ (b : Bool). pushRow w (cond b (restart d) d .window) frame) (unchanged long e)
+      pushed-window wanderOf lim w d frame now (omega arith) ∙ ap (λ (rows : List (List ℕ)). pushRow w rows frame) (kept-window long e)
 
   pub even-pushed : Even w n d → 1 ≤ n → length frame ≡ n → Even w n (pushFrame wanderOf lim w d frame now)
   even-pushed v some e =

@@ -2,7 +2,7 @@
 -- Assumes nothing.
 use mathlib.Core.Path.{_≡_, refl, sym, ap, _∙_}
 use mathlib.Core.Bool.{Bool, true, false, cond, not}
-use mathlib.Core.List.{List, [], _∷_, _++_, append-assoc, append-nil}
+use mathlib.Core.List.{List, [], _∷_, _++_, append-assoc}
 use Prim.Native.Nat.{ℕ, suc, _≤_}
 use native.Mathlib.Omega.{arith}
 use borrow.Author.Tests.{eqb-true, ne-eqb, ltb-true}
@@ -10,7 +10,7 @@ use lib.Dec.{eqb, ltb}
 use lib.ListN.{length, length-map}
 use Rattle.window.specs.Window.{pushRow, lastOf, width, Long, ringRows, windowOf}
 use Rattle.window.specs.Order.{HasNoOrder}
-use Rattle.window.proofs.Pushed.{long-push, push-last, last-of-last, last-behind, last-few, last-most, last-full}
+use Rattle.window.proofs.Pushed.{long-push, push-last, last-of-last, last-behind, last-full}
 use Rattle.window.proofs.View.{window-long}
 use Rattle.window.proofs.Mean.{ring-long}
 use Rattle.window.proofs.Order.{length-reordered, long-reordered}
@@ -19,7 +19,10 @@ use Rattle.detector.specs.Detector.{Kind, Detector, newDetector, Valid, 
 use Rattle.detector.specs.Order.{Push, framesOf, pushAll, Level, TellTheSame, AllPushed, no-more, and-then, NoOrder}
 use Rattle.detector.specs.declared.Limits.{Limits}
 use Rattle.detector.specs.declared.State.{State}
-use Rattle.detector.proofs.Even.{Even, even-new, even-pushed, judged-window, pushed-window, long-window}
+use Rattle.detector.proofs.Even.{judged-window, pushed-window, kept-window}
+
+frames-many : (ps : List Push) → length (framesOf ps) ≡ length ps
+frames-many ps = length-map ps (λ (p : Push). p .frame)
 
 -- rows of n entries are as long as the first
 long-level : (n : ℕ) (rows : List (List ℕ)) → Long n rows → Long (width rows) rows
@@ -65,24 +68,21 @@ module _ (wanderOf : List (List ℕ) → ℕ) (w : ℕ) where
           rw (judged-window wanderOf lim w now (withFrame w (startFor d frame) frame))
           (long-level (length frame) (pushRow w start frame) (long-push w start frame (length frame) (start-long (length frame) d frame level refl) refl))
 
-  first-even : (n : ℕ) (d : Detector) (p : Push) → Level d → 1 ≤ n → length (p .frame) ≡ n → Even w n (pushFrame wanderOf (p .lim) w d (p .frame) (p .now))
-  first-even n d p level some e =
-      let start : List (List ℕ) = startFor d (p .frame) .window in
-      let then = pushed-window wanderOf (p .lim) w d (p .frame) (p .now) (omega arith) in
-      record {
-        few = rw (then, push-last w start (p .frame)) (last-most w (start ++ (p .frame ∷ [])));
-        long = rw then (long-push w start (p .frame) n (start-long n d (p .frame) level e) e);
-      }
-
-  all-window : (n : ℕ) (d : Detector) (ps : List Push) → Even w n d → 1 ≤ n → Long n (framesOf ps)
-      → pushAll wanderOf w d ps .window ≡ lastOf w (d .window ++ framesOf ps)
+  -- the window is the last w of the rows that the first frame finds and of all frames
+  all-window : (n : ℕ) (d : Detector) (p : Push) (ps : List Push) → Level d → 1 ≤ n → Long n (framesOf (p ∷ ps))
+      → pushAll wanderOf w d (p ∷ ps) .window ≡ lastOf w (startFor d (p .frame) .window ++ framesOf (p ∷ ps))
   unfolding pushAll
-  all-window n d [] v some long = sym (ap (lastOf w) (append-nil (d .window)) ∙ last-few w (d .window) (v .few))
-  all-window n d (p ∷ ps) v some long =
+  all-window n d p [] level some long =
+      pushed-window wanderOf (p .lim) w d (p .frame) (p .now) (omega (arith, long 0 (omega arith))) ∙ push-last w (startFor d (p .frame) .window) (p .frame)
+  all-window n d p (q ∷ ps) level some long =
       let e : length (p .frame) ≡ n = long 0 (omega arith) in
       let d′ : Detector = pushFrame wanderOf (p .lim) w d (p .frame) (p .now) in
-      all-window n d′ ps (even-pushed wanderOf (p .lim) w n d (p .frame) (p .now) v some e) some (λ i h. long (suc i) (omega arith))
-      ∙ rw (long-window wanderOf (p .lim) w n d (p .frame) (p .now) (v .long) some e, push-last w (d .window) (p .frame), last-of-last w (d .window ++ (p .frame ∷ [])) (framesOf ps), append-assoc (d .window) (p .frame ∷ []) (framesOf ps))
+      let start : List (List ℕ) = startFor d (p .frame) .window in
+      let window : d′ .window ≡ pushRow w start (p .frame) = pushed-window wanderOf (p .lim) w d (p .frame) (p .now) (omega arith) in
+      let rows : Long n (d′ .window) = rw window (long-push w start (p .frame) n (start-long n d (p .frame) level e) e) in
+      let kept : startFor d′ (q .frame) .window ≡ d′ .window = kept-window wanderOf (q .lim) w n d′ (q .frame) (q .now) rows (long 1 (omega arith)) in
+      all-window n d′ q ps (long-level n (d′ .window) rows) some (λ i h. long (suc i) (omega arith))
+      ∙ rw (kept, window, push-last w start (p .frame), last-of-last w (start ++ (p .frame ∷ [])) (framesOf (q ∷ ps)), append-assoc start (p .frame ∷ []) (framesOf (q ∷ ps)))
 
   all-told : (n : ℕ) (d : Detector) (ps : List Push) → Told d → 1 ≤ n → Long n (framesOf ps) → Told (pushAll wanderOf w d ps)
   unfolding pushAll
@@ -90,27 +90,28 @@ module _ (wanderOf : List (List ℕ) → ℕ) (w : ℕ) where
   all-told n d (p ∷ ps) t some long =
       all-told n (pushFrame wanderOf (p .lim) w d (p .frame) (p .now)) ps (told-pushed d p (omega (arith, long 0 (omega arith)))) some (λ i h. long (suc i) (omega arith))
 
-  pub tells-the-last : (n : ℕ) (d : Detector) (ps : List Push) → 1 ≤ w → Level d → 1 ≤ n → length ps ≡ w → Long n (framesOf ps)
-      → pushAll wanderOf w d ps .wander ≡ wanderOf (framesOf ps)
+  -- where these are w rows, their wander is told
+  tells : (n : ℕ) (d : Detector) (p : Push) (ps : List Push) (rows : List (List ℕ)) → Level d → 1 ≤ n → Long n (framesOf (p ∷ ps))
+      → lastOf w (startFor d (p .frame) .window ++ framesOf (p ∷ ps)) ≡ rows → length rows ≡ w → pushAll wanderOf w d (p ∷ ps) .wander ≡ wanderOf rows
   unfolding pushAll
+  tells n d p ps rows level some long e full =
+      let window : pushAll wanderOf w d (p ∷ ps) .window ≡ rows = all-window n d p ps level some long ∙ e in
+      all-told n (pushFrame wanderOf (p .lim) w d (p .frame) (p .now)) ps (told-pushed d p (omega (arith, long 0 (omega arith)))) some (λ i h. long (suc i) (omega arith)) (ap length window ∙ full)
+      ∙ ap wanderOf window
+
+  tells-the-last : (n : ℕ) (d : Detector) (ps : List Push) → 1 ≤ w → Level d → 1 ≤ n → length ps ≡ w → Long n (framesOf ps)
+      → pushAll wanderOf w d ps .wander ≡ wanderOf (framesOf ps)
   tells-the-last n d [] one level some full long = absurd (omega arith)
   tells-the-last n d (p ∷ ps) one level some full long =
-      let e : length (p .frame) ≡ n = long 0 (omega arith) in
-      let rest : Long n (framesOf ps) = λ i h. long (suc i) (omega arith) in
-      let d′ : Detector = pushFrame wanderOf (p .lim) w d (p .frame) (p .now) in
-      let start : List (List ℕ) = startFor d (p .frame) .window in
-      let window : pushAll wanderOf w d′ ps .window ≡ framesOf (p ∷ ps) =
-      all-window n d′ ps (first-even n d p level some e) some rest
-      ∙ rw (pushed-window wanderOf (p .lim) w d (p .frame) (p .now) (omega arith), push-last w start (p .frame), last-of-last w (start ++ (p .frame ∷ [])) (framesOf ps), append-assoc start (p .frame ∷ []) (framesOf ps))
-      (last-behind w start (framesOf (p ∷ ps)) (length-map (p ∷ ps) (λ (q : Push). q .frame) ∙ full)) in
-      all-told n d′ ps (told-pushed d p (omega arith)) some rest (ap length window ∙ length-map (p ∷ ps) (λ (q : Push). q .frame) ∙ full) ∙ ap wanderOf window
+      let many : length (framesOf (p ∷ ps)) ≡ w = frames-many (p ∷ ps) ∙ full in
+      tells n d p ps (framesOf (p ∷ ps)) level some long (last-behind w (startFor d (p .frame) .window) (framesOf (p ∷ ps)) many) many
 
   -- a new one tells that of the last w of all frames
   pub tells-the-last-of-all : (n : ℕ) (ps : List Push) → 1 ≤ w → 1 ≤ n → w ≤ length ps → Long n (framesOf ps)
       → pushAll wanderOf w newDetector ps .wander ≡ wanderOf (lastOf w (framesOf ps))
-  tells-the-last-of-all n ps one some enough long =
-      let window : pushAll wanderOf w newDetector ps .window ≡ lastOf w (framesOf ps) = all-window n newDetector ps (even-new w n) some long in
-      all-told n newDetector ps (λ none. absurd (omega arith)) some long (ap length window ∙ last-full w (framesOf ps) (omega (arith, length-map ps (λ (p : Push). p .frame)))) ∙ ap wanderOf window
+  tells-the-last-of-all n [] one some enough long = absurd (omega arith)
+  tells-the-last-of-all n (p ∷ ps) one some enough long =
+      tells n newDetector p ps (lastOf w (framesOf (p ∷ ps))) (λ i h. absurd (omega arith)) some long refl (last-full w (framesOf (p ∷ ps)) (omega (arith, frames-many (p ∷ ps))))
 
 -- ---- no order
 
@@ -119,7 +120,7 @@ tell-the-same wanderOf no-order w n d e ps qs one of-d of-e same =
     let fs : List (List ℕ) = framesOf ps in
     let gs : List (List ℕ) = framesOf qs in
     let full : length qs ≡ w =
-    sym (length-map qs (λ (q : Push). q .frame)) ∙ sym (length-reordered fs gs (same .reordered)) ∙ length-map ps (λ (p : Push). p .frame) ∙ same .full in
+    sym (frames-many qs) ∙ sym (length-reordered fs gs (same .reordered)) ∙ frames-many ps ∙ same .full in
     tells-the-last wanderOf w n d ps one of-d (same .some) (same .full) (same .long)
     ∙ no-order n fs gs (same .long) (same .reordered)
     ∙ sym (tells-the-last wanderOf w n e qs one of-e (same .some) full (long-reordered n fs gs (same .reordered) (same .long)))

@@ -42,12 +42,6 @@ module _ {A : Type 0} (w : ℕ) where
       let k : length (l ++ m) - w ≡ length l = omega (arith, length-append l m) in
       rw (k, drop-append-le (length l) l m (omega arith), drop-of-length-le l {i = length l} (omega arith))
 
-  pub last-few : (l : List A) → length l ≤ w → lastOf w l ≡ l
-  last-few l h = let k : length l - w ≡ 0 = omega arith in rw k
-
-  pub last-most : (l : List A) → length (lastOf w l) ≤ w
-  last-most l = omega (arith, length-drop (length l - w) l)
-
   pub last-full : (l : List A) → w ≤ length l → length (lastOf w l) ≡ w
   last-full l h = omega (arith, length-drop (length l - w) l)
 
