@@ -8,9 +8,10 @@
 # make compare       our libraries against the Rust, on many inputs: 3 minutes beside them
 # make compare-full  the room at full size, beside that: 10 minutes
 # make picture       docs/swap.svg, a swap of boards drawn by the Rust crate: 10 seconds beside the library
+# make angles        docs/angles.svg, the errors of all angles over the circle: 5 seconds, with the Rust's sources
 # make bench         our time as a ratio to the Rust's: a minute
 .DEFAULT_GOAL := help
-.PHONY: help run test library header gateway dist compare compare-full oracle bench compare-room compare-room-scale compare-room-memory compare-roomlines picture need-rt
+.PHONY: help run test library header gateway dist compare compare-full oracle bench compare-room compare-room-scale compare-room-memory compare-roomlines picture angles need-rt
 
 # each crate X_c has calls for C, and a driver oracle/compare/X
 subjects := $(patsubst crates/%_c,%,$(wildcard crates/*_c))
@@ -89,3 +90,9 @@ picture:
 	@mkdir -p target
 	cd gateway && cargo run --quiet --offline --example swap > ../target/swap.svg
 	mv target/swap.svg docs/swap.svg
+
+# drawn by the oracle, which has the angles rounded down too
+angles:
+	@mkdir -p target
+	cd oracle && cargo run --quiet --offline --release --bin angles > ../target/angles.svg
+	mv target/angles.svg docs/angles.svg

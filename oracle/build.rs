@@ -1,4 +1,5 @@
-//! Names the Rust sources as modules where they stand; nothing of them is copied.
+//! Names the Rust sources as modules where they stand. Nothing of them is kept here: phase.rs, whose angles are changed, is
+//! written anew beside what is built.
 
 use std::path::PathBuf;
 use std::process::exit;
@@ -14,6 +15,13 @@ const FILES: [&str; 6] = [
     "fall",
 ];
 
+/// What is changed in phase.rs: in both octants the table of arctangents is read at the nearest index, half going up, where
+/// the Rust rounds it down.
+const CHANGES: [[&str; 2]; 2] = [
+    ["(ay * 256 / ax)", "((ay * 256 + ax / 2) / ax)"],
+    ["(ax * 256 / ay)", "((ax * 256 + ay / 2) / ay)"],
+];
+
 fn main() {
     let here = PathBuf::from(env::var_os("CARGO_MANIFEST_DIR").unwrap());
     let folder =
@@ -22,30 +30,60 @@ fn main() {
     let mut modules = String::new();
     for name in FILES {
         let file = folder.join(name).with_extension("rs");
-        let Ok(file) = file.canonicalize() else {
+        let Ok(mut file) = file.canonicalize() else {
             let file = file.display();
-            eprintln!("{file} is missing: set {VARIABLE} to the folder with the Rust sources");
-            exit(1);
+            stop(&format!(
+                "{file} is missing: set {VARIABLE} to the folder with the Rust sources"
+            ));
         };
         println!("cargo:rerun-if-changed={}", file.display());
-        modules += &format!("#[path = {file:?}]\npub mod {name};\n");
         if name == "phase" {
             let text = fs::read_to_string(&file).unwrap();
             fs::write(out.join("unit_vector.rs"), unit_vector(&text)).unwrap();
+            fs::write(out.join("floored.rs"), angle(&text)).unwrap();
+            file = out.join("phase.rs");
+            fs::write(&file, changed(text)).unwrap();
         }
+        modules += &format!("#[path = {file:?}]\npub mod {name};\n");
     }
     println!("cargo:rerun-if-env-changed={VARIABLE}");
     fs::write(out.join("radar.rs"), modules).unwrap();
 }
 
+fn stop(words: &str) -> ! {
+    eprintln!("{words}");
+    exit(1);
+}
+
+/// The text with every change made. Each place must be there exactly once.
+fn changed(mut text: String) -> String {
+    for [old, new] in CHANGES {
+        let places = text.matches(old).count();
+        if places != 1 {
+            stop(&format!("phase.rs has {old} {places} times, not once"));
+        }
+        text = text.replace(old, new);
+    }
+    text
+}
+
 /// The Rust's unit vectors, which it keeps to itself: the text of the table and of the function.
 fn unit_vector(text: &str) -> String {
-    let part = |from: &str, to: &str| {
-        let start = text.find(from).expect(from);
-        let length = text[start..].find(to).expect(to) + to.len();
-        &text[start..start + length]
-    };
-    let table = part("const SIN_QUARTER", "];\n");
-    let function = part("const fn unit_vector", "\n}\n");
+    let table = part(text, "const SIN_QUARTER", "];\n");
+    let function = part(text, "const fn unit_vector", "\n}\n");
     format!("{table}\npub {function}")
+}
+
+/// The Rust's angle, unchanged: the text of the table and of the function.
+fn angle(text: &str) -> String {
+    let table = part(text, "const ATAN_OCTANT", "];\n");
+    let function = part(text, "pub const fn atan2_brad", "\n}\n");
+    format!("{table}\n{function}")
+}
+
+/// From one text to the end of another.
+fn part<'a>(text: &'a str, from: &str, to: &str) -> &'a str {
+    let start = text.find(from).expect(from);
+    let length = text[start..].find(to).expect(to) + to.len();
+    &text[start..start + length]
 }

@@ -13,6 +13,8 @@ use volkjarp::{Answer, Room, Sample, Settings, SettingsError};
 mod picture;
 #[path = "swap/radio.rs"]
 mod radio;
+#[path = "swap/svg.rs"]
+mod svg;
 
 use picture::Point;
 use radio::{HZ, Heard, SWAPS};

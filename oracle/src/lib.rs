@@ -1,6 +1,7 @@
-//! The measure of every answer: the Rust sources, built as they are, and what the drivers share.
+//! The measure of every answer: the Rust sources, built as they are but for the index of an angle, and what the drivers
+//! share.
 
-/// The six Rust sources. build.rs says where they stand.
+/// The six Rust sources. build.rs says where they stand and what is changed.
 pub mod radar {
     include!(concat!(env!("OUT_DIR"), "/radar.rs"));
 }
@@ -10,18 +11,25 @@ pub mod vectors {
     include!(concat!(env!("OUT_DIR"), "/unit_vector.rs"));
 }
 
+/// The Rust's own angle, cut out of phase.rs before it is changed: the index is rounded down.
+pub mod floored {
+    include!(concat!(env!("OUT_DIR"), "/floored.rs"));
+}
+
 pub use rusty_esp_core::{Error, Micros};
 
 pub mod calls;
 pub mod detectors;
 pub mod differ;
 pub mod driver;
+pub mod errors;
 pub mod frames;
 pub mod kinds;
 pub mod layout;
 pub mod lines;
 pub mod measured;
 pub mod memory;
+pub mod picture;
 pub mod random;
 pub mod refusals;
 pub mod room;

@@ -19,6 +19,7 @@ pub mod Logic
 mod Magnitude
 pub mod Map
 pub mod Moved
+pub mod Nearest
 pub mod Order
 pub mod Parts
 pub mod Placed

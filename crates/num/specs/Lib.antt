@@ -1,6 +1,7 @@
 pub mod Clamp
 pub mod Limits
 pub mod Lists
+pub mod Nearest
 pub mod Root
 pub mod Rules
 pub mod Sign

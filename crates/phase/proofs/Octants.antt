@@ -1,21 +1,21 @@
 -- What the code's steps say of the definitions in `specs/Angle.antt`. Assumes nothing.
 use mathlib.Core.Path.{_≡_, ap, _∙_}
 use mathlib.Core.Bool.{true, false}
-use Prim.Native.Nat.{ℕ, _-_, _*_, _/_, _≤_, _<_, min, max}
-use native.Mathlib.Nat.{div-le-of-le-mul}
+use Prim.Native.Nat.{ℕ, _-_, _*_, _≤_, _<_, min, max}
 use native.Mathlib.Omega.{arith}
 use borrow.Author.Tests.{le-leb, lt-leb, eq-eqb, ne-eqb}
 use lib.IntN.{ℤ, pos, negℤ, natAbs}
 use lib.Signed.{ltZ}
 use lib.ListN.{getD}
 use Rattle.num.specs.Wrap.{wrap16}
+use Rattle.num.proofs.Nearest.{nearest-le}
 use Rattle.phase.specs.Tables.{atanOctant, entries}
 use Rattle.phase.specs.Angle.{tableIndex, octantAngle, firstQuadrant, mirrorX, mirrorY, angleOf, quarterTurn}
 
 -- a ratio of at most 1 is in the table
-pub index-lt : (lo hi : ℕ) → lo ≤ hi → tableIndex lo hi < entries
+pub index-lt : (lo hi : ℕ) → lo ≤ hi → 1 ≤ hi → tableIndex lo hi < entries
 unfolding tableIndex
-index-lt lo hi h = let k : lo * 256 / hi ≤ 256 = div-le-of-le-mul hi (omega arith) in omega arith
+index-lt lo hi h some = let k = nearest-le 256 hi (lo * 256) some (omega arith) in omega arith
 
 -- the origin, and any other point
 module _ (lo hi : ℕ) where

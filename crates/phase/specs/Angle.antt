@@ -1,11 +1,12 @@
 -- Angles in binary radians: 65,536 to a turn, -32,768 .. 32,767 (phase.rs, `atan2_brad`). Assumes nothing.
 use mathlib.Core.Bool.{cond}
-use Prim.Native.Nat.{ℕ, _+_, _-_, _*_, _/_}
+use Prim.Native.Nat.{ℕ, _+_, _-_, _*_}
 use lib.Dec.{leb, eqb}
 use lib.IntN.{ℤ, pos, negℤ, natAbs}
 use lib.Signed.{ltZ}
 use lib.ListN.{getD}
 use mathlib.Core.List.{List}
+use Rattle.num.specs.Nearest.{nearest}
 use Rattle.num.specs.Wrap.{wrap16, signed8}
 use Rattle.phase.specs.Tables.{atanOctant}
 
@@ -19,9 +20,9 @@ halfTurn = 32768
 abbrev pub most : ℕ
 most = 128
 
--- the entry of the table for the ratio lo / hi: its 256ths, rounded down
+-- the entry of the table for the ratio lo / hi: its 256ths, rounded to the nearest, half going up
 unfoldable pub tableIndex : (lo hi : ℕ) → ℕ
-tableIndex lo hi = lo * 256 / hi
+tableIndex lo hi = nearest (lo * 256) hi
 
 -- the angle from an axis of a point hi along it and lo from it, where lo is at most hi; 0 at the origin
 unfoldable pub octantAngle : (lo hi : ℕ) → ℕ

@@ -20,12 +20,13 @@ const QUARTER_TURN: u32 = 16384;
 
 const HALF_TURN: u32 = 32768;
 
-// Where the table is read for a point lo from an axis and hi along it: the ratio in 256ths, rounded down.
+// Where the table is read for a point lo from an axis and hi along it: the ratio in 256ths, rounded to the nearest, half going
+// up.
 fn table_index(lo: u32, hi: u32) -> usize
     requires { ⌜ (lo ≤ hi) × (1 ≤ hi) × (hi ≤ most) ⌝ }
     ensures { λ r. ⌜ (r ≡ tableIndex lo hi) × (r < entries) ⌝ }
 {
-    (lo * STEPS / hi) as usize
+    ((lo * STEPS + hi / 2) / hi) as usize
 }
 
 // The angle from that axis; 0 where the point is the origin.

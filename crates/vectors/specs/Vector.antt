@@ -4,6 +4,7 @@ use mathlib.Core.Bool.{cond}
 use lib.Dec.{eqb}
 use lib.IntN.{ℤ, pos, negsuc, negℤ, natAbs}
 use lib.ListN.{getD}
+use Rattle.num.specs.Nearest.{nearest}
 use Rattle.num.specs.Wrap.{modZ}
 use Rattle.num.specs.Root.{root}
 use Rattle.vectors.specs.Tables.{sinQuarter}
@@ -38,8 +39,8 @@ sinAt b =
 
 -- a / b rounded to the nearest, halves away from zero
 unfoldable pub divRound : ℤ → ℕ → ℤ
-divRound (pos a) b = pos ((a + b / 2) / b)
-divRound (negsuc a) b = negℤ (pos ((suc a + b / 2) / b))
+divRound (pos a) b = pos (nearest a b)
+divRound (negsuc a) b = negℤ (pos (nearest (suc a) b))
 
 -- the squared length of the mean of w vectors that add up to (c, s), each component rounded
 unfoldable pub meanSquare : ℤ → ℤ → ℕ → ℕ

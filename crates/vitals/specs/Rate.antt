@@ -1,10 +1,11 @@
 -- The parabola through a peak, the rate, and how sure it is (vitals.rs, `estimate`). Assumes nothing.
-use Prim.Native.Nat.{ℕ, _+_, _*_, _/_, min, max}
+use Prim.Native.Nat.{ℕ, _*_, min, max}
 use mathlib.Core.Bool.{Bool, cond, _&&_}
 use lib.Dec.{ltb, leb}
 use lib.IntN.{ℤ, pos, negsuc, _+ℤ_, _-ℤ_, _*ℤ_}
 use lib.Signed.{ltZ, quotZ}
 use Rattle.num.specs.Clamp.{clampZ}
+use Rattle.num.specs.Nearest.{nearest}
 
 -- a - 2b + c
 abbrev pub bend : ℤ → ℤ → ℤ → ℤ
@@ -25,7 +26,7 @@ refined best delta = max 16 (natural (pos (best * 16) +ℤ delta))
 
 -- ten times the rate per minute of a period of lag sixteenths of a sample
 abbrev pub bpmOf : ℕ → ℕ → ℕ
-bpmOf rate lag = min ((9600 * rate + lag / 2) / lag) 65535
+bpmOf rate lag = min (nearest (9600 * rate) lag) 65535
 
 -- the peak's height for each column that was used, in permille
 abbrev pub confidenceOf : ℤ → ℕ → ℕ

@@ -3,6 +3,7 @@
 use volkjarp::{Presence, Verdict};
 
 use crate::radio::{HZ, Scene};
+use crate::svg::Sheet;
 
 /// What one watched sample gave.
 pub struct Point {
@@ -33,11 +34,6 @@ const UNIT_AT: f64 = 194.0;
 const WANDER_AT: f64 = 254.0;
 const DISTANCE_AT: f64 = 352.0;
 
-const HEAD: &str = "<svg xmlns='http://www.w3.org/2000/svg' viewBox='0 0 1000 512' \
-font-family='DejaVu Sans,Verdana,sans-serif' font-size='14'>
-<style>.m{text-anchor:middle}.e{text-anchor:end}.s{font-size:12px}.b{font-weight:bold}.t{font-size:19px}</style>
-<rect width='1000' height='512' fill='#fff'/>
-";
 const TITLE: &str = "A radio board is swapped for another with as many subcarriers";
 const CAPTION: [&str; 2] = [
     "The radio is made up; every answer is the unit's. By number alone: the unit is given the new \
@@ -52,11 +48,10 @@ pub fn draw(scenes: &[Scene], alone: &[Point], unit: &[Point]) -> String {
     let length = |scenes: &[&Scene]| scenes.iter().map(|scene| scene.seconds).sum::<u64>() as f64;
     let before = watched.partition_point(|scene| scene.tag == 2);
     let mut picture = Picture {
-        svg: HEAD.into(),
+        sheet: Sheet::new(TITLE),
         seconds: length(&watched),
         swap: length(&watched[..before]),
     };
-    picture.text(14.0, 29.0, "t", "#000", TITLE);
     picture.legend();
     picture.rows(&watched);
     let ways = [("by number alone", ALONE, alone), ("this unit", UNIT, unit)];
@@ -66,10 +61,7 @@ pub fn draw(scenes: &[Scene], alone: &[Point], unit: &[Point]) -> String {
     picture.plot(DISTANCE_AT, "distance", ways, |point| point.distance);
     picture.axis();
     picture.notes();
-    for (line, words) in CAPTION.iter().enumerate() {
-        picture.text(14.0, 484.0 + 18.0 * line as f64, "s", "#444", words);
-    }
-    picture.svg + "</svg>\n"
+    picture.sheet.finish(CAPTION)
 }
 
 /// How a verdict is shown.
@@ -82,7 +74,7 @@ fn colour(verdict: Verdict) -> &'static str {
 }
 
 struct Picture {
-    svg: String,
+    sheet: Sheet,
     /// How long the axis is, and when the tag changes.
     seconds: f64,
     swap: f64,
@@ -98,25 +90,12 @@ impl Picture {
         self.x(sample as f64 / HZ as f64)
     }
 
-    fn text(&mut self, x: f64, y: f64, class: &str, fill: &str, words: &str) {
-        let start = format!("<text x='{x:.1}' y='{y:.1}' class='{class}' fill='{fill}'>");
-        self.svg += &format!("{start}{words}</text>\n");
-    }
-
-    fn rect(&mut self, x: [f64; 2], y: f64, height: f64, fill: &str) {
-        let place = format!("x='{:.1}' y='{y}' width='{:.1}'", x[0], x[1] - x[0]);
-        self.svg += &format!("<rect {place} height='{height}' fill='{fill}'/>\n");
-    }
-
-    fn line(&mut self, path: &str, style: &str) {
-        self.svg += &format!("<path d='{path}' fill='none' {style}/>\n");
-    }
-
     fn legend(&mut self) {
         let verdicts = [Verdict::Warming, Verdict::Absent, Verdict::Present];
         for (x, verdict) in [722.0, 818.0, 900.0].into_iter().zip(verdicts) {
-            self.rect([x, x + 14.0], 16.0, 14.0, colour(verdict));
-            self.text(x + 20.0, 28.0, "s", "#444", &verdict.to_string());
+            self.sheet.rect([x, x + 14.0], 16.0, 14.0, colour(verdict));
+            self.sheet
+                .text(x + 20.0, 28.0, "s", "#444", &verdict.to_string());
         }
     }
 
@@ -140,35 +119,39 @@ impl Picture {
         scenes: &[&Scene],
         words: fn(&Scene) -> (&'static str, &'static str),
     ) {
-        self.text(14.0, y + 16.0, "", "#000", title);
+        self.sheet.text(14.0, y + 16.0, "", "#000", title);
         let mut from = 0;
         for part in scenes.chunk_by(|a, b| words(a) == words(b)) {
             let to = from + part.iter().map(|scene| scene.seconds).sum::<u64>();
             let ends = [self.x(from as f64), self.x(to as f64)];
             let (word, fill) = words(part[0]);
-            self.rect(ends, y, ROW, fill);
-            self.text((ends[0] + ends[1]) / 2.0, y + 15.5, "m s", "#333", word);
+            self.sheet.rect(ends, y, ROW, fill);
+            self.sheet
+                .text((ends[0] + ends[1]) / 2.0, y + 15.5, "m s", "#333", word);
             from = to;
         }
     }
 
     fn band(&mut self, y: f64, (title, pen, points): Way<'_>) {
-        self.text(14.0, y + 23.0, "", pen, title);
+        self.sheet.text(14.0, y + 23.0, "", pen, title);
         let mut from = 0;
         for part in points.chunk_by(|a, b| a.verdict == b.verdict) {
             let ends = [self.at(from), self.at(from + part.len())];
             let verdict = part[0].verdict;
-            self.rect(ends, y, BAND, colour(verdict));
+            self.sheet.rect(ends, y, BAND, colour(verdict));
             if ends[1] - ends[0] > 60.0 {
                 let middle = (ends[0] + ends[1]) / 2.0;
-                self.text(middle, y + 23.0, "m", "#000", &verdict.to_string());
+                self.sheet
+                    .text(middle, y + 23.0, "m", "#000", &verdict.to_string());
             }
             from += part.len();
         }
         if let Some(sample) = points.iter().position(|point| point.fall) {
             let x = self.at(sample);
-            self.line(&format!("M{x:.1} {y}l-5-8h10z"), "stroke='#000'");
-            self.text(x, y - 12.0, "m s b", "#000", "fall suspected");
+            self.sheet
+                .line(&format!("M{x:.1} {y}l-5-8h10z"), "stroke='#000'");
+            self.sheet
+                .text(x, y - 12.0, "m s b", "#000", "fall suspected");
         }
     }
 
@@ -178,12 +161,12 @@ impl Picture {
             .flat_map(|(.., points)| points.iter().map(value));
         let top = values.fold(0.0, f64::max);
         let height = |value: f64| y + PLOT * (1.0 - value / top);
-        self.text(14.0, y + 40.0, "", "#000", title);
-        self.text(14.0, y + 57.0, "s", "#444", "permille");
+        self.sheet.text(14.0, y + 40.0, "", "#000", title);
+        self.sheet.text(14.0, y + 57.0, "s", "#444", "permille");
         let frame = format!("M{LEFT} {y}H{RIGHT}v{PLOT}H{LEFT}z");
-        self.line(&frame, "stroke='#bbb'");
+        self.sheet.line(&frame, "stroke='#bbb'");
         for tick in [0.0, top] {
-            self.text(
+            self.sheet.text(
                 LEFT - 6.0,
                 height(tick) + 4.0,
                 "e s",
@@ -195,13 +178,14 @@ impl Picture {
             let on = Presence::default().on_permille;
             let y = height(on.into());
             let dashes = "stroke='#777' stroke-dasharray='5 4'";
-            self.line(&format!("M{LEFT} {y:.1}H{RIGHT}"), dashes);
+            self.sheet.line(&format!("M{LEFT} {y:.1}H{RIGHT}"), dashes);
             let words = format!("present from {on} on");
-            self.text(RIGHT - 6.0, y - 5.0, "e s", "#444", &words);
+            self.sheet.text(RIGHT - 6.0, y - 5.0, "e s", "#444", &words);
         }
         for ((_, pen, points), width) in ways.into_iter().zip([2.6, 1.4]) {
             let path = self.curve(points.iter().map(|point| height(value(point))));
-            self.line(&path, &format!("stroke='{pen}' stroke-width='{width}'"));
+            self.sheet
+                .line(&path, &format!("stroke='{pen}' stroke-width='{width}'"));
         }
     }
 
@@ -225,13 +209,16 @@ impl Picture {
         let bottom = DISTANCE_AT + PLOT;
         for second in (0..=self.seconds as u64).step_by(2) {
             let x = self.x(second as f64);
-            self.line(&format!("M{x:.1} {bottom}v5"), "stroke='#777'");
-            self.text(x, bottom + 18.0, "m s", "#444", &format!("{second} s"));
+            self.sheet
+                .line(&format!("M{x:.1} {bottom}v5"), "stroke='#777'");
+            self.sheet
+                .text(x, bottom + 18.0, "m s", "#444", &format!("{second} s"));
         }
         let x = self.x(self.swap);
         let style = "stroke='#000' stroke-width='1.6'";
-        self.line(&format!("M{x:.1} {ROWS_AT}V{bottom}"), style);
-        self.text(x, ROWS_AT - 5.0, "m b", "#000", "swap");
+        self.sheet
+            .line(&format!("M{x:.1} {ROWS_AT}V{bottom}"), style);
+        self.sheet.text(x, ROWS_AT - 5.0, "m b", "#000", "swap");
     }
 
     /// What is to be seen behind the swap.
@@ -270,7 +257,7 @@ impl Picture {
             ),
         ];
         for (x, y, pen, words) in notes {
-            self.text(x, y, "s", pen, words);
+            self.sheet.text(x, y, "s", pen, words);
         }
     }
 }

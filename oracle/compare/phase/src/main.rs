@@ -5,6 +5,8 @@ use std::process::ExitCode;
 
 use oracle::argument;
 use oracle::differ::{self, Differ};
+use oracle::errors::Errors;
+use oracle::floored;
 use oracle::measured::{frame, phases, put_angles, signed, whole};
 use oracle::radar::csi::MAX_SUBCARRIERS;
 use oracle::radar::csi_stream::{MAX_IQ, layout_of};
@@ -68,6 +70,14 @@ fn every_angle(differ: &mut Differ) {
             differ.compare(&(y, x), &rust, &unsafe { phase_atan2_brad(y, x) });
         }
     }
+}
+
+/// Prints how far all angles are from the true ones: the Rust's, whose index is rounded down, and ours.
+fn lean() {
+    let ours = |y: i32, x: i32| unsafe { phase_atan2_brad(y as i8, x as i8) };
+    let floored = Errors::of(floored::atan2_brad);
+    println!("errors of all angles, index rounded down: {floored}");
+    println!("errors of our angles: {}", Errors::of(ours));
 }
 
 /// A frame's bytes, one of several sorts.
@@ -158,6 +168,7 @@ fn measure(random: &mut Random) {
 fn main() -> ExitCode {
     differ::compare("phase", |differ, random| {
         every_angle(differ);
+        lean();
         every_tag(differ, random);
         every_count(differ, random);
         for _ in 0..argument(2, 1_000_000) {

@@ -1,11 +1,12 @@
 -- `vectors::steps::mean_magnitude` meets its contract. Assumes nothing.
 use mathlib.Core.Path.{_≡_, sym, ap, _∙_}
-use Prim.Native.Nat.{ℕ, _+_, _/_, _≤_}
+use Prim.Native.Nat.{ℕ, _≤_}
 use native.Mathlib.Omega.{arith}
 use borrow.Author.Needs.{needs}
 use lib.IntN.{natAbs}
 use mir.Facts.{toZ-ofZ}
-use Rattle.num.proofs.Sum.{rounded-le}
+use Rattle.num.specs.Nearest.{nearest}
+use Rattle.num.proofs.Nearest.{nearest-le}
 use Rattle.vectors.proofs.Means.{abs-round}
 use Rattle.vectors.proofs.steps.mean_magnitude.Statement.{statement}
 use Rattle.vectors.proofs.steps.mean_magnitude.Tie as tie
@@ -18,11 +19,11 @@ module _ (c : tie.After-unsigned-abs-i32) where
   size-is : c .unsigned-abs-i32 .result ≡ natAbs (c .before .args .a)
   size-is = rw (toZ-ofZ (c .before .fits .a)) at (c .unsigned-abs-i32 .ensures)
 
-  mean-is : (c .unsigned-abs-i32 .result + c .before .args .w / 2) / c .before .args .w ≡ (natAbs (c .before .args .a) + c .before .args .w / 2) / c .before .args .w
-  mean-is = ap (λ (n : ℕ). (n + c .before .args .w / 2) / c .before .args .w) size-is
+  mean-is : nearest (c .unsigned-abs-i32 .result) (c .before .args .w) ≡ nearest (natAbs (c .before .args .a)) (c .before .args .w)
+  mean-is = ap (λ (n : ℕ). nearest n (c .before .args .w)) size-is
 
-  mean-small : (natAbs (c .before .args .a) + c .before .args .w / 2) / c .before .args .w ≤ 16384
-  mean-small = rounded-le 16384 (c .before .args .w) (natAbs (c .before .args .a)) (c .before .pre .0) (c .before .pre .3)
+  mean-small : nearest (natAbs (c .before .args .a)) (c .before .args .w) ≤ 16384
+  mean-small = nearest-le 16384 (c .before .args .w) (natAbs (c .before .args .a)) (c .before .pre .0) (c .before .pre .3)
 
 add-per-row : tie.Need-add-per-row
 add-per-row c = omega (arith, size-is c)
