@@ -20,7 +20,8 @@ halfTurn = 32768
 abbrev pub most : ℕ
 most = 128
 
--- the entry of the table for the ratio lo / hi: its 256ths, rounded to the nearest, half going up
+-- the entry of the table for the ratio lo / hi: its 256ths, rounded to the nearest, half going up (phase.rs rounds them down:
+-- docs/DIFFERENCES.md, "Phase")
 unfoldable pub tableIndex : (lo hi : ℕ) → ℕ
 tableIndex lo hi = nearest (lo * 256) hi
 
