@@ -15,7 +15,7 @@ pub struct Errors {
     pub mean: f64,
     /// The size of the largest.
     pub largest: f64,
-    /// The mean of the errors with a sign: below 0 where the angle is nearer to the next axis than the true one.
+    /// The mean of the errors with a sign: below 0 where the angle is closer to the nearest axis than the true one.
     pub lean: f64,
 }
 

@@ -1,8 +1,13 @@
-//! What docs/SPEC.md says of the angles' errors ("Phase"), and docs/angles.svg, which shows them.
+//! What docs/SPEC.md says under "How exact an angle is", and docs/angles.svg, which shows it.
 
 use oracle::errors::{Errors, pairs};
 use oracle::picture::draw;
 use oracle::{floored, radar::phase};
+
+/// The smaller and the larger distance from an axis.
+fn distances(y: i32, x: i32) -> (i32, i32) {
+    (y.abs().min(x.abs()), y.abs().max(x.abs()))
+}
 
 #[test]
 fn the_lean_is_gone() {
@@ -24,7 +29,9 @@ fn pairs_that_moved() {
     let moved = |pair: &(i32, i32)| {
         let (y, x) = *pair;
         let by = phase::atan2_brad(y, x).wrapping_sub(floored::atan2_brad(y, x));
-        assert!(by.unsigned_abs() <= 41, "{pair:?}");
+        let (lesser, greater) = distances(y, x);
+        let stands_there = greater == 0 || lesser * 256 % greater == 0;
+        assert!(by.unsigned_abs() <= 41 && (by == 0 || !stands_there));
         by != 0
     };
     assert_eq!(pairs().filter(moved).count(), 30_720);
@@ -34,8 +41,8 @@ fn pairs_that_moved() {
 #[test]
 fn no_pair_meets_a_half() {
     for (y, x) in pairs() {
-        let (a, b) = (y.abs().min(x.abs()), y.abs().max(x.abs()));
-        assert!(b == 0 || a * 512 % (2 * b) != b, "{y} {x}");
+        let (lesser, greater) = distances(y, x);
+        assert!(greater == 0 || lesser * 512 % (2 * greater) != greater);
     }
 }
 

@@ -9,6 +9,6 @@ nearest a b = (a + b / 2) / b
 abbrev pub Nearest : (a b r : ℕ) → Type 0
 Nearest a b r = (2 * (r * b) ≤ 2 * a + b) × (2 * a < 2 * (r * b) + b)
 
--- the quotient does so, and no other number does
+-- so it is of `nearest a b`, and of no other number
 abbrev pub RoundsToTheNearest : Type 0
 RoundsToTheNearest = (a b : ℕ) → 1 ≤ b → Nearest a b (nearest a b) × ((r : ℕ) → Nearest a b r → r ≡ nearest a b)
