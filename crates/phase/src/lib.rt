@@ -20,8 +20,7 @@ const QUARTER_TURN: u32 = 16384;
 
 const HALF_TURN: u32 = 32768;
 
-// Where the table is read for a point lo from an axis and hi along it: the ratio in 256ths, rounded to the nearest, half going
-// up.
+// Where the table is read for a point lo from an axis and hi along it: the ratio in 256ths, to the nearest, half going up.
 fn table_index(lo: u32, hi: u32) -> usize
     requires { ⌜ (lo ≤ hi) × (1 ≤ hi) × (hi ≤ most) ⌝ }
     ensures { λ r. ⌜ (r ≡ tableIndex lo hi) × (r < entries) ⌝ }

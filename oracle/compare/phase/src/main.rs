@@ -5,7 +5,7 @@ use std::process::ExitCode;
 
 use oracle::argument;
 use oracle::differ::{self, Differ};
-use oracle::errors::Errors;
+use oracle::errors::{Errors, pairs};
 use oracle::floored;
 use oracle::measured::{frame, phases, put_angles, signed, whole};
 use oracle::radar::csi::MAX_SUBCARRIERS;
@@ -62,22 +62,22 @@ fn compare_phases(differ: &mut Differ, iq: &[u8], tag: u8) {
     differ.compare(&(tag, iq), &rust(phases(iq, tag)), &phases_ours(iq, tag));
 }
 
-/// Every pair of signed bytes.
+/// Of signed bytes.
+fn angle_ours(y: i32, x: i32) -> i16 {
+    unsafe { phase_atan2_brad(y as i8, x as i8) }
+}
+
 fn every_angle(differ: &mut Differ) {
-    for y in i8::MIN..=i8::MAX {
-        for x in i8::MIN..=i8::MAX {
-            let rust = atan2_brad(i32::from(y), i32::from(x));
-            differ.compare(&(y, x), &rust, &unsafe { phase_atan2_brad(y, x) });
-        }
+    for (y, x) in pairs() {
+        differ.compare(&(y, x), &atan2_brad(y, x), &angle_ours(y, x));
     }
 }
 
 /// Prints how far all angles are from the true ones: the Rust's, whose index is rounded down, and ours.
 fn lean() {
-    let ours = |y: i32, x: i32| unsafe { phase_atan2_brad(y as i8, x as i8) };
-    let floored = Errors::of(floored::atan2_brad);
+    let [floored, ours] = [floored::atan2_brad, angle_ours].map(Errors::of);
     println!("errors of all angles, index rounded down: {floored}");
-    println!("errors of our angles: {}", Errors::of(ours));
+    println!("errors of our angles: {ours}");
 }
 
 /// A frame's bytes, one of several sorts.
