@@ -1,17 +1,19 @@
-# make help          this list
-# make run           the lines of a sample stream: 5 to 8 minutes on a new clone, since they are proved first, then 2 seconds
-# make test          the gate: proofs, edits that must fail, recorded cases, tests, comparisons, pace: 45 to 70 minutes
-# make library       target/staticlib/libvolkjarp.a, all calls for C and Rust: 8 to 12 minutes on a new clone, then a second
-# make header        the library from C: layouts, every call, the example: 5 seconds beside the library
-# make gateway       the tests of the Rust crate: 10 seconds beside the library
-# make dist          dist/, what a gateway needs: library, header, the crate's sources, checksums: a second beside the library
-# make compare       our libraries against the Rust, on many inputs: 3 minutes beside them
-# make compare-full  the room at full size, beside that: 10 minutes
-# make picture       docs/swap.svg, a swap of boards drawn by the Rust crate: 10 seconds beside the library
-# make angles        docs/angles.svg, the errors of all angles over the circle: 5 seconds, with the Rust's sources
-# make bench         our time as a ratio to the Rust's: a minute
+# make help            this list
+# make run             the lines of a sample stream: 5 to 8 minutes on a new clone, since they are proved first, then 2 seconds
+# make test            the gate: proofs, edits that must fail, recorded cases, tests, comparisons, pace: 45 to 70 minutes
+# make library         target/staticlib/libvolkjarp.a, all calls for C and Rust: 8 to 12 minutes on a new clone, then a second
+# make header          the library from C: layouts, every call, the example: 5 seconds beside the library
+# make gateway         the tests of the Rust crate: 10 seconds beside the library
+# make dist            dist/, what a gateway needs: library, header, the crate's sources, checksums: a second beside the library
+# make compare         our libraries against the Rust, on many inputs: 3 minutes beside them
+# make compare-full    the room at full size, beside that: 10 minutes
+# make picture         docs/swap.svg, a swap of boards drawn by the Rust crate: 10 seconds beside the library
+# make angles          docs/angles.svg, the errors of all angles over the circle: 5 seconds, with the Rust's sources
+# make census-picture  docs/census.svg, the pairs of each amplitude and sector, drawn by the Rust crate: 10 seconds beside the library
+# make census          both lists of the pair census as text: a minute and a half on a new clone, since it is proved first, then a second
+# make bench           our time as a ratio to the Rust's: a minute
 .DEFAULT_GOAL := help
-.PHONY: help run test library header gateway dist compare compare-full oracle bench compare-room compare-room-scale compare-room-memory compare-roomlines picture angles need-rt
+.PHONY: help run test library header gateway dist compare compare-full oracle bench compare-room compare-room-scale compare-room-memory compare-roomlines picture angles census census-picture need-rt
 
 # each crate X_c has calls for C, and a driver oracle/compare/X
 subjects := $(patsubst crates/%_c,%,$(wildcard crates/*_c))
@@ -85,11 +87,22 @@ compare-roomlines: need-rt
 bench: target/staticlib/libroom.a
 	@$(room) bench_room
 
-# the crate's build script has the library made
+# for this picture and the next the crate's build script has the library made
 picture:
 	@mkdir -p target
 	cd gateway && cargo run --quiet --offline --example swap > ../target/swap.svg
 	mv target/swap.svg docs/swap.svg
+
+census-picture:
+	@mkdir -p target
+	cd gateway && cargo run --quiet --offline --example census > ../target/census.svg
+	mv target/census.svg docs/census.svg
+
+# the prover's words go to target/census.log
+census: need-rt
+	@mkdir -p target
+	@rt check paircensus > target/census.log 2>&1 || { tail -n 20 target/census.log >&2; exit 1; }
+	@target/bin/paircensus
 
 # drawn by the oracle, which has the angles rounded down too
 angles:

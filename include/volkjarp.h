@@ -618,6 +618,24 @@ struct volkjarp_phase_begun phase_detector_reset(const uint8_t *rows, size_t row
                                                  struct volkjarp_detector state,
                                                  struct volkjarp_phase_sums sums);
 
+/* ---- The pair census -------------------------------------------------------------------------- */
+
+/* The amplitudes of a pair, 0 to 724, and the equal sectors of the circle. */
+#define VOLKJARP_AMPLITUDES 725
+#define VOLKJARP_SECTORS 8
+
+/* How many of all 65,536 pairs of signed bytes, imaginary and real part from -128 to 127, have each
+ * amplitude (as csi_features has it), and how many have their angle (phase_atan2_brad) in each sector.
+ * Sector k holds the angles from k * 8,192 on and below (k + 1) * 8,192, where a whole turn, 65,536,
+ * is added to a negative angle. Each list totals 65,536. */
+struct volkjarp_census {
+    uint32_t amplitude[VOLKJARP_AMPLITUDES];
+    uint32_t sector[VOLKJARP_SECTORS];
+};
+
+/* Goes through all pairs and counts them, the same each time. Nothing is lent, nothing refused. */
+struct volkjarp_census census_count(void);
+
 /* ---- Breathing and heart ---------------------------------------------------------------------- */
 
 /* First and last lag, in blocks. */

@@ -7,6 +7,9 @@
 
 enum { SECOND = 1000000 };
 
+/* Units of a turn, and pairs of signed bytes. */
+enum { TURN = 65536, PAIRS = 65536 };
+
 /* I/Q bytes of which the first pair alone is not 0: an amplitude of 20. */
 static const uint8_t IQ[VOLKJARP_IQ_LEN] = {3, 4};
 
@@ -210,6 +213,53 @@ static void phase_detector(void)
     CHECK(p.refusal == VOLKJARP_ACCEPT && p.state.filled == 0);
 }
 
+/* The sector of a pair: a whole turn is added to a negative angle. */
+static size_t sector(int8_t im, int8_t re)
+{
+    const int32_t angle = phase_atan2_brad(im, re);
+    return (size_t)(angle < 0 ? angle + TURN : angle) / (TURN / VOLKJARP_SECTORS);
+}
+
+/* The census made with the calls for amplitudes and angles, 64 pairs at a time. */
+static struct volkjarp_census counted(void)
+{
+    struct volkjarp_census c;
+    struct volkjarp_measured m;
+    uint8_t iq[VOLKJARP_IQ_LEN];
+    int im, first, k;
+
+    memset(&c, 0, sizeof c);
+    for (im = INT8_MIN; im <= INT8_MAX; im++) {
+        for (first = INT8_MIN; first <= INT8_MAX; first += VOLKJARP_COLUMNS) {
+            for (k = 0; k < VOLKJARP_COLUMNS; k++) {
+                iq[2 * k] = (uint8_t)im;
+                iq[2 * k + 1] = (uint8_t)(first + k);
+                c.sector[sector((int8_t)im, (int8_t)(first + k))]++;
+            }
+            m = csi_features(iq, sizeof iq, VOLKJARP_TAG_DENSE_64);
+            for (k = 0; k < m.features.count; k++)
+                c.amplitude[m.features.amplitude[k]]++;
+        }
+    }
+    return c;
+}
+
+static void census(void)
+{
+    const struct volkjarp_census c = census_count(), due = counted();
+    uint32_t by_amplitude = 0, by_sector = 0;
+    size_t k;
+
+    for (k = 0; k < VOLKJARP_AMPLITUDES; k++)
+        by_amplitude += c.amplitude[k];
+    for (k = 0; k < VOLKJARP_SECTORS; k++)
+        by_sector += c.sector[k];
+    CHECK(by_amplitude == PAIRS && by_sector == PAIRS);
+    CHECK(c.amplitude[0] == 1 && c.amplitude[VOLKJARP_AMPLITUDES - 1] == 1);
+    CHECK(memcmp(c.amplitude, due.amplitude, sizeof c.amplitude) == 0);
+    CHECK(memcmp(c.sector, due.sector, sizeof c.sector) == 0);
+}
+
 static void bands(void)
 {
     const struct volkjarp_vitals_config breathing = vitals_breathing(50), heart = vitals_heart(50);
@@ -349,6 +399,7 @@ int main(void)
     presence();
     phases();
     phase_detector();
+    census();
     bands();
     vitals();
     fall();

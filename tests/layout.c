@@ -136,6 +136,10 @@ AT(phase_frame, phase, 0);
 AT(phase_frame, count, 128);
 AT(phase_frame, time, 136);
 
+SIZE(census, 2932);
+AT(census, amplitude, 0);
+AT(census, sector, 2900);
+
 SIZE(lags, 16);
 AT(lags, lo, 0);
 AT(lags, hi, 8);

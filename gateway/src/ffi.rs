@@ -1,4 +1,7 @@
-//! The unit's calls and the sample's wire form, on slices. All unsafe code of this crate is here.
+//! The unit's calls and the sample's wire form, on slices, and the pair census. All unsafe code of
+//! this crate is here.
+
+use crate::census::Census;
 
 /// What settings need.
 #[repr(C)]
@@ -36,7 +39,7 @@ pub struct Header {
 }
 
 // SAFETY: these are the signatures of the library, as include/volkjarp.h and crates/csi_stream_c
-// have them; the structs are above.
+// have them; the structs are above, that of the census in census.rs.
 unsafe extern "C" {
     fn room_memory_len(settings: *const u8, settings_len: usize) -> MemoryLen;
     fn room_begin(
@@ -72,6 +75,7 @@ unsafe extern "C" {
         out: *mut u8,
         out_len: usize,
     ) -> Encoded;
+    fn census_count() -> Census;
 }
 
 /// The length of memory that these settings need, or the refusal.
@@ -151,6 +155,12 @@ pub fn encode(h: &Header, iq: &[u8], out: &mut [u8]) -> Encoded {
     }
 }
 
+/// The count of all pairs.
+pub fn census() -> Census {
+    // SAFETY: the call is lent nothing and has no state; it returns plain numbers by value.
+    unsafe { census_count() }
+}
+
 #[cfg(test)]
 mod tests {
     use super::*;
@@ -167,6 +177,9 @@ mod tests {
         assert_eq!(offset_of!(Ran, used), 3 * word);
         assert_eq!(size_of::<Encoded>(), 16);
         assert_eq!(offset_of!(Encoded, bytes), 8);
+        assert_eq!(size_of::<Census>(), 2932);
+        assert_eq!(offset_of!(Census, amplitude), 0);
+        assert_eq!(offset_of!(Census, sector), 2900);
     }
 
     #[test]

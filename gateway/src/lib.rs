@@ -67,6 +67,21 @@
 //! [`Room::from_memory`] goes on from there; bytes that the unit did not leave are refused.
 //! `examples/live.rs` is a gateway's loop that does so.
 //!
+//! # The pair census
+//!
+//! [`census()`] counts all 65,536 I/Q pairs by amplitude and by sector of the circle: the measure of
+//! how evenly a front end fills the scale. `examples/census.rs` draws it.
+//!
+//! ```
+//! use volkjarp::census;
+//!
+//! let census = census();
+//! assert_eq!(census.amplitude.iter().sum::<u32>(), 65_536);
+//! assert_eq!((census.amplitude[0], census.amplitude[724]), (1, 1));
+//! // Bytes reach -128 but not 128, so the sectors differ.
+//! assert_eq!(census.sector, [8129, 8128, 8128, 8255, 8256, 8256, 8256, 8128]);
+//! ```
+//!
 //! # Building
 //!
 //! Programs are linked with the unit's static library, for x86-64 Linux. The build script has it made
@@ -77,6 +92,7 @@
 #![warn(missing_docs)]
 
 mod answer;
+mod census;
 #[allow(unsafe_code)]
 mod ffi;
 mod record;
@@ -85,6 +101,7 @@ mod room;
 mod settings;
 
 pub use answer::{ANSWER_LEN, Answer, Rate, Verdict};
+pub use census::{AMPLITUDES, Census, SECTORS, census};
 pub use record::{IQ_LEN, RECORD_LEN, Record, SAMPLE_LEN, Sample, whole_len};
 pub use refusal::Refusal;
 pub use room::{Ran, Room, Run};

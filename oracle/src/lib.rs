@@ -19,6 +19,7 @@ pub mod floored {
 pub use rusty_esp_core::{Error, Micros};
 
 pub mod calls;
+pub mod census;
 pub mod detectors;
 pub mod differ;
 pub mod driver;

@@ -3,12 +3,12 @@ use mathlib.Core.Path.{refl}
 use Prim.Native.Nat.{_+_, _*_, _≤_, _<_}
 use native.Mathlib.Omega.{arith}
 use native.Mathlib.Nat.{mul-le-mul}
-use lib.IntN.{natAbs}
+use lib.IntN.{ℤ, natAbs}
 use lib.ListN.{getD}
 use Rattle.num.specs.Wrap.{signed8}
 use Rattle.num.proofs.Byte.{byte-le}
 use Rattle.num.proofs.Root.{root-below}
-use Rattle.csi.specs.Features.{amplitudeAt}
+use Rattle.csi.specs.Features.{amplitudeOf, amplitudeAt}
 use Rattle.csi.specs.Layout.{layouts, entriesOf, upFrom}
 use Rattle.csi.specs.Rules.{LayoutCounts, AmplitudesAtMost724}
 
@@ -16,10 +16,12 @@ pub layout-counts : LayoutCounts
 unfolding layouts entriesOf upFrom
 layout-counts = refl
 
+-- of numbers that are at most 128 from 0
+pub amplitude-below : (im re : ℤ) → natAbs im ≤ 128 → natAbs re ≤ 128 → amplitudeOf im re < 725
+amplitude-below im re h l = root-below _ 725 (omega (arith, mul-le-mul h h, mul-le-mul l l))
+
 pub amplitudes-at-most-724 : AmplitudesAtMost724
 unfolding amplitudeAt
 amplitudes-at-most-724 iq k bytes =
-    let re : natAbs (signed8 (getD iq (2 * k) 0)) ≤ 128 = byte-le _ (bytes (2 * k)) in
-    let im : natAbs (signed8 (getD iq (2 * k + 1) 0)) ≤ 128 = byte-le _ (bytes (2 * k + 1)) in
-    let below : amplitudeAt iq k < 725 = root-below _ 725 (omega (arith, mul-le-mul re re, mul-le-mul im im)) in
+    let below = amplitude-below (signed8 (getD iq (2 * k) 0)) (signed8 (getD iq (2 * k + 1) 0)) (byte-le _ (bytes (2 * k))) (byte-le _ (bytes (2 * k + 1))) in
     omega arith

@@ -4,7 +4,7 @@ use mathlib.Core.Bool.{cond}
 use mathlib.Core.List.{List, _++_, map}
 use Prim.Native.Nat.{ℕ, _+_, _-_, _*_, _/_, min}
 use lib.Dec.{ltb, eqb}
-use lib.IntN.{natAbs}
+use lib.IntN.{ℤ, natAbs}
 use lib.ListN.{length, getD, take, replicate}
 use Rattle.num.specs.Root.{root}
 use Rattle.num.specs.Sum.{total, apart, square}
@@ -17,9 +17,13 @@ use Rattle.csi.specs.declared.Measured.{Measured}
 abbrev pub byteSquare : ℕ → ℕ
 byteSquare b = square (natAbs (signed8 b))
 
+-- the amplitude of a pair, with two fractional bits: isqrt(16·(im² + re²))
+abbrev pub amplitudeOf : (im re : ℤ) → ℕ
+amplitudeOf im re = root (16 * (square (natAbs im) + square (natAbs re)))
+
 -- entry k of the I/Q bytes: byte 2k is the imaginary part and byte 2k + 1 the real
 unfoldable pub amplitudeAt : List ℕ → ℕ → ℕ
-amplitudeAt iq k = root (16 * (byteSquare (getD iq (2 * k) 0) + byteSquare (getD iq (2 * k + 1) 0)))
+amplitudeAt iq k = amplitudeOf (signed8 (getD iq (2 * k) 0)) (signed8 (getD iq (2 * k + 1) 0))
 
 -- the floored mean, and the floored mean of the square differences from it
 abbrev pub meanOf : List ℕ → ℕ

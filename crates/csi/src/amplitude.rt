@@ -3,8 +3,9 @@ ghost use mathlib.Core.Path.{_≡_};
 ghost use Prim.Native.Nat.{ℕ, _+_, _*_, _≤_, _<_};
 ghost use lib.ListN.{length, getD};
 ghost use Rattle.num.specs.Root.{root};
+ghost use Rattle.num.specs.Wrap.{signed8};
 ghost use Rattle.csi.specs.Digits.{Between};
-ghost use Rattle.csi.specs.Features.{amplitudeAt, byteSquare};
+ghost use Rattle.csi.specs.Features.{amplitudeAt, amplitudeOf, byteSquare};
 ghost use Rattle.csi.specs.Layout.{maxSubcarriers};
 
 // One binary digit of the root more: r + bit where its square is at most s, else r.
@@ -52,9 +53,9 @@ fn square(b: u8) -> u16
     m * m
 }
 
-// isqrt(16·(im² + re²)).
-fn amplitude(im: u8, re: u8) -> u16
-    ensures { λ r. ⌜ r ≡ root (16 * (byteSquare im + byteSquare re)) ⌝ }
+// Of the signed numbers that two bytes hold.
+pub(crate) fn amplitude(im: u8, re: u8) -> u16
+    ensures { λ r. ⌜ r ≡ amplitudeOf (signed8 im) (signed8 re) ⌝ }
 {
     let s = square(im) + square(re);
     let r = isqrt16(s);

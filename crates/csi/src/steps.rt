@@ -3,7 +3,7 @@ ghost use mathlib.Core.Path.{_≡_};
 ghost use mathlib.Core.Bool.{true};
 ghost use Prim.Native.Nat.{_≤_, _<_};
 ghost use lib.ListN.{length, getD};
-ghost use Rattle.csi.specs.Features.{featuresOf, normalisedOf};
+ghost use Rattle.csi.specs.Features.{amplitudeOf, featuresOf, normalisedOf};
 ghost use Rattle.csi.specs.Layout.{maxSubcarriers, known, layoutOf, entriesOf, frameRefusal};
 use crate::Features;
 use crate::Layout;
@@ -27,6 +27,13 @@ pub fn entry(layout: Layout, k: usize) -> usize
     } else {
         layout.start2 as usize + (k - n)
     }
+}
+
+// The amplitude of a pair.
+pub fn amplitude(im: i8, re: i8) -> u16
+    ensures { λ r. ⌜ r ≡ amplitudeOf im re ⌝ }
+{
+    crate::amplitude::amplitude(num::i8_to_byte(im), num::i8_to_byte(re))
 }
 
 // The features of I/Q bytes that `frame::refusal` does not refuse under this tag.

@@ -2,9 +2,11 @@ pub mod Abs
 pub mod AddZ
 pub mod Arrays
 pub mod Bits
+pub mod Building
 pub mod Byte
 pub mod Clamp
 pub mod Cond
+pub mod Counting
 pub mod Declared
 pub mod Diff
 pub mod Divisor
@@ -14,6 +16,7 @@ pub mod Elements
 pub mod Fields
 pub mod Fill
 pub mod First
+pub mod Grid
 pub mod Lists
 pub mod Logic
 mod Magnitude
@@ -21,6 +24,7 @@ pub mod Map
 pub mod Moved
 pub mod Nearest
 pub mod Order
+pub mod Partition
 pub mod Parts
 pub mod Placed
 pub mod Ratio

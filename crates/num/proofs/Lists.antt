@@ -34,6 +34,25 @@ module _ {A : Type 0} where
   build-more zero f = refl
   build-more (suc n) f = ap (λ (l : List A). f 0 ∷ l) (build-more n (λ k. f (suc k)))
 
+  -- the same entries
+  pub build-same : (n : ℕ) (f g : ℕ → A) → ((k : ℕ) → k < n → f k ≡ g k) → build n f ≡ build n g
+  unfolding build
+  build-same zero f g h = refl
+  build-same (suc n) f g h = let e = h 0 (omega arith) in let d = build-same n (λ k. f (suc k)) (λ k. g (suc k)) (λ k l. h (suc k) (omega arith)) in cc
+
+  -- the first m, and the n behind them
+  pub build-append : (m n : ℕ) (f : ℕ → A) → build (m + n) f ≡ build m f ++ build n (λ k. f (m + k))
+  unfolding build
+  build-append zero n f =
+      let e : 0 + n ≡ n = omega arith in
+      ap (λ (j : ℕ). build j f) e ∙ build-same n f (λ k. f (0 + k)) (λ k l. let d : k ≡ 0 + k = omega arith in ap f d)
+  build-append (suc m) n f =
+      let e : suc m + n ≡ suc (m + n) = omega arith in
+      ap (λ (j : ℕ). build j f) e
+      ∙ ap (λ (l : List A). f 0 ∷ l) (build-append m n (λ k. f (suc k)))
+      ∙ ap (λ (l : List A). f 0 ∷ (build m (λ k. f (suc k)) ++ l))
+      (build-same n (λ k. f (suc (m + k))) (λ k. f (suc m + k)) (λ k l. let d : suc (m + k) ≡ suc m + k = omega arith in ap f d))
+
   kept-append : (b : Bool) (y : A) (k l m : List A) → k ≡ l ++ m → cond b (y ∷ k) k ≡ cond b (y ∷ l) l ++ m
   kept-append true y k l m e = ap (λ (t : List A). y ∷ t) e
   kept-append false y k l m e = e

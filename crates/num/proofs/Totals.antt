@@ -19,6 +19,13 @@ length-plus (x ∷ xs) [] = refl
 length-plus [] (y ∷ ys) = refl
 length-plus (x ∷ xs) (y ∷ ys) = ap suc (length-plus xs ys)
 
+pub plus-at : (xs ys : List ℕ) (i : ℕ) → i < length xs → getD (plus xs ys) i 0 ≡ getD xs i 0 + getD ys i 0
+unfolding plus
+plus-at [] ys i h = absurd (omega arith)
+plus-at (x ∷ xs) [] i h = let e : getD (x ∷ xs) i 0 ≡ getD (x ∷ xs) i 0 + 0 = omega arith in e
+plus-at (x ∷ xs) (y ∷ ys) zero h = refl
+plus-at (x ∷ xs) (y ∷ ys) (suc i) h = plus-at xs ys i (omega arith)
+
 -- the entries from i on are as they were
 plus-past : (xs ys : List ℕ) (i : ℕ) → getD (plus xs (take i ys)) i 0 ≡ getD xs i 0
 unfolding plus

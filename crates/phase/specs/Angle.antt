@@ -16,6 +16,9 @@ quarterTurn = 16384
 abbrev pub halfTurn : ℕ
 halfTurn = 32768
 
+abbrev pub wholeTurn : ℕ
+wholeTurn = 65536
+
 -- the most that a signed byte is from 0
 abbrev pub most : ℕ
 most = 128

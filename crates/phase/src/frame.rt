@@ -19,7 +19,7 @@ fn angle_at(table: &[u16; ENTRIES], iq: &[u8], k: usize) -> i16
 {
     let im = num::byte_to_i8(iq[2 * k]);
     let re = num::byte_to_i8(iq[2 * k + 1]);
-    crate::angle(table, im, re)
+    crate::steps::angle(table, im, re)
 }
 
 // Puts the angles of the entries from `start` to `end`, without the upper end, into `out` from place k on. Returns the place behind them.

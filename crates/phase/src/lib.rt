@@ -8,7 +8,7 @@ ghost use Rattle.phase.specs.Angle.{tableIndex, octantAngle, firstQuadra
 pub mod frame;
 mod line;
 pub mod steps;
-mod tables;
+pub mod tables;
 
 use csi::MAX_SUBCARRIERS;
 use tables::ENTRIES;
@@ -69,25 +69,12 @@ fn half_plane(x: i8, a: u32) -> u32
     if x < 0 { HALF_TURN - a } else { a }
 }
 
-// The angle of (x, y), with the table at hand.
-fn angle(table: &[u16; ENTRIES], y: i8, x: i8) -> i16
-    requires { ⌜ now table ≡ atanOctant ⌝ }
-    ensures { λ r. ⌜ r ≡ angleOf y x ⌝ }
-{
-    let quadrant = first_quadrant(table, num::unsigned_abs_i8(y), num::unsigned_abs_i8(x));
-    let wide = half_plane(x, quadrant) as i64;
-    if y < 0 {
-        return num::wrap_i16(-wide);
-    }
-    num::wrap_i16(wide)
-}
-
 // The angle of (x, y): 0 along +x, 16,384 along +y, half a turn as -32,768, and 0 at (0, 0).
 pub fn atan2_brad(y: i8, x: i8) -> i16
     ensures { λ r. ⌜ r ≡ angleOf y x ⌝ }
 {
     let table = tables::atan_table();
-    angle(&table, y, x)
+    steps::angle(&table, y, x)
 }
 
 // Angles, of which the first `count` are in use.

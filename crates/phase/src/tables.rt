@@ -5,7 +5,7 @@ ghost use lib.ListN.{getD};
 ghost use Rattle.phase.specs.Tables.{atanOctant, entries, eighthTurn};
 
 // The entries of the table.
-pub(crate) const ENTRIES: usize = 257;
+pub const ENTRIES: usize = 257;
 
 // atan(i / 256) for i in 0..=256: one octant, 0 to 8,192.
 const ATAN_OCTANT: [u16; ENTRIES] = [
@@ -269,7 +269,7 @@ const ATAN_OCTANT: [u16; ENTRIES] = [
 ];
 
 // The table, for a local that is lent to its readers: a constant is copied wherever it is named.
-pub(crate) fn atan_table() -> [u16; ENTRIES]
+pub fn atan_table() -> [u16; ENTRIES]
     ensures { λ r. ⌜ r ≡ atanOctant ⌝ }
 {
     ATAN_OCTANT

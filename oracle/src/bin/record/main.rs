@@ -6,6 +6,7 @@ mod csi_stream;
 mod detector;
 mod fall;
 mod fingerprint;
+mod paircensus;
 mod phase;
 mod phase_detector;
 mod presence;
@@ -34,6 +35,7 @@ fn record(subject: &str) -> Option<(&'static str, Recorded)> {
         "phase_detector" => ("phase_detector_cases", phase_detector::cases().into()),
         "presence" => ("presence_cases", presence::cases().into()),
         "vitals" => ("vitals_cases", vitals::cases().into()),
+        "paircensus" => ("paircensus", paircensus::recorded()),
         "roomlines" => ("roomlines", roomlines()),
         _ => return None,
     })

@@ -1,4 +1,4 @@
--- `phase::angle` meets its contract. Assumes nothing.
+-- `phase::steps::angle` meets its contract. Assumes nothing.
 use mathlib.Core.Path.{_≡_, ap, _∙_}
 use Prim.Native.Nat.{_^_, _<_}
 use native.Mathlib.Omega.{arith}
@@ -12,8 +12,8 @@ use Rattle.num.proofs.Abs.{abs-sfits}
 use Rattle.num.proofs.Read.{minus-fits, minus-read}
 use Rattle.phase.specs.Angle.{firstQuadrant, mirrorX}
 use Rattle.phase.proofs.Octants.{below-axis, above-axis}
-use Rattle.phase.proofs.angle.Statement.{statement}
-use Rattle.phase.proofs.angle.Tie as tie
+use Rattle.phase.proofs.steps.angle.Statement.{statement}
+use Rattle.phase.proofs.steps.angle.Tie as tie
 
 unsigned-abs-i8-requires : tie.Need-unsigned-abs-i8-requires
 unsigned-abs-i8-requires c κs = search needs

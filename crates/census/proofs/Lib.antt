@@ -1,0 +1,3 @@
+mod Parts
+mod Rows
+pub mod Rules

@@ -1,0 +1,3 @@
+pub mod Census
+pub mod Rows
+pub mod Rules

@@ -1,0 +1,17 @@
+// Prints the pair census: a line for each amplitude, then for each sector, with its number and how many pairs fall there.
+fn print(name: &[u8], counts: &[u32]) {
+    for k in 0..counts.len() {
+        cases::text(name);
+        cases::number(k as u64);
+        cases::number(counts[k] as u64);
+        cases::end_line();
+    }
+}
+
+fn main() {
+    let census = census::count();
+    let amplitude = census.amplitude;
+    let sector = census.sector;
+    print(b"amplitude", &amplitude);
+    print(b"sector", &sector);
+}
