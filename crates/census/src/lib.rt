@@ -4,7 +4,7 @@ ghost use Prim.Native.Nat.{_<_};
 ghost use lib.ListN.{length};
 ghost use Rattle.num.specs.Lists.{tallies, plus};
 ghost use Rattle.phase.specs.Tables.{atanOctant};
-ghost use Rattle.census.specs.Census.{bytes, signedByte, sectorOf, sectors, census};
+ghost use Rattle.census.specs.Census.{bytes, signedByte, sectorOf, census};
 ghost use Rattle.census.specs.Rows.{rowAmplitudes, rowSectors, Countable};
 use phase::tables::ENTRIES;
 
