@@ -9,8 +9,8 @@
 # make compare-full    the room at full size, beside that: 10 minutes
 # make picture         docs/swap.svg, a swap of boards drawn by the Rust crate: 10 seconds beside the library
 # make angles          docs/angles.svg, the errors of all angles over the circle: 5 seconds, with the Rust's sources
-# make census-picture  docs/census.svg, the pairs of each amplitude and sector, drawn by the Rust crate: 10 seconds beside the library
 # make census          both lists of the pair census as text: a minute and a half on a new clone, since it is proved first, then a second
+# make census-picture  docs/census.svg, the pairs of each amplitude and sector, drawn by the Rust crate: 10 seconds beside the library
 # make bench           our time as a ratio to the Rust's: a minute
 .DEFAULT_GOAL := help
 .PHONY: help run test library header gateway dist compare compare-full oracle bench compare-room compare-room-scale compare-room-memory compare-roomlines picture angles census census-picture need-rt
