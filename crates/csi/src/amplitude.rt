@@ -53,7 +53,7 @@ fn square(b: u8) -> u16
     m * m
 }
 
-// Of the signed numbers that two bytes hold.
+// The amplitude of the two signed numbers that these bytes hold.
 pub(crate) fn amplitude(im: u8, re: u8) -> u16
     ensures { λ r. ⌜ r ≡ amplitudeOf (signed8 im) (signed8 re) ⌝ }
 {
