@@ -11,7 +11,7 @@ use mir.Val.{SFits}
 use Rattle.num.specs.Wrap.{modZ}
 use Rattle.num.proofs.Diff.{sub-lt, sub-ge}
 use Rattle.num.proofs.Abs.{abs-sfits}
-use Rattle.num.proofs.Wrap.{wrap16-fits}
+use Rattle.num.proofs.Wrap.{mod-lt, wrap16-fits}
 use Rattle.csi.specs.Features.{amplitudeOf}
 use Rattle.csi.proofs.Rules.{amplitude-below}
 use Rattle.phase.specs.Angle.{angleOf}
@@ -36,13 +36,9 @@ sector-bits (negsuc n) h =
     let b = abs-sfits (negsuc n) h in let e : n % 65536 ≡ n = omega arith in
     let m : suc n ≤ 65536 = omega arith in rw (e, sub-ge 65536 (suc n) m)
 
-bits-lt : (a : ℤ) → modZ a 65536 / 8192 < sectors
-bits-lt (pos n) = omega arith
-bits-lt (negsuc n) = omega arith
-
 sector-lt : (im re : ℤ) → sectorIn im re < sectors
 unfolding angleOf
-sector-lt im re = rw (sym (sector-bits (angleOf im re) (wrap16-fits _))) (bits-lt (angleOf im re))
+sector-lt im re = rw (sym (sector-bits (angleOf im re) (wrap16-fits _))) (omega (arith, mod-lt (angleOf im re)))
 
 -- of every pair of signed bytes
 pub amplitude-bound : (i j : ℕ) → i < bytes → j < bytes → amplitudeOf (signedByte i) (signedByte j) < amplitudes

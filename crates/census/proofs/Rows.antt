@@ -12,7 +12,7 @@ use Rattle.num.proofs.Partition.{length-tallies, tally-le, tallies-none, tallie
 use Rattle.census.specs.Census.{Pair, bytes, signedByte, signedBytes, allPairs, amplitudes}
 use Rattle.census.specs.Rows.{pairs, Countable}
 
--- pair p of all, and those with the k-th imaginary part
+-- the pair of the i-th and the j-th signed byte, and pair p of all
 abbrev pub pairOf : ℕ → ℕ → Pair
 pairOf i j = record { im = signedByte i; re = signedByte j }
 
@@ -38,8 +38,8 @@ row-more k =
         let d : (k * 256 + j) / 256 ≡ k = omega arith in let r : (k * 256 + j) % 256 ≡ j = omega arith in
         rw (d, r)
 
--- what is counted of a pair, below n
-module _ (value : ℤ → ℤ → ℕ) (n : ℕ) (below : (i j : ℕ) → i < bytes → j < bytes → value (signedByte i) (signedByte j) < n) where
+-- what is counted of a pair, n values
+module _ (value : ℤ → ℤ → ℕ) (n : ℕ) where
   abbrev valueOf : Pair → ℕ
   valueOf p = value (p .im) (p .re)
 
@@ -60,12 +60,12 @@ module _ (value : ℤ → ℤ → ℕ) (n : ℕ) (below : (i j : ℕ) → i < by
     pub tallied-long : length counts ≡ n
     tallied-long = ap length (t .are) ∙ length-tallies valueOf n (firstRows k)
 
-    pub countable : k < bytes → n ≤ amplitudes → Countable (map (value (signedByte k)) signedBytes) counts
-    countable h few =
+    pub countable : k < bytes → n ≤ amplitudes → ((j : ℕ) → j < bytes → value (signedByte k) (signedByte j) < n) → Countable (map (value (signedByte k)) signedBytes) counts
+    countable h few below =
         record {
           whole = ap length (row-values k) ∙ length-build bytes _;
           few = omega (arith, tallied-long);
-          places = λ j l. rw (row-values k, at-build bytes (λ i. value (signedByte k) (signedByte i)) j 0 l, tallied-long) (below k j h l);
+          places = λ j l. rw (row-values k, at-build bytes (λ i. value (signedByte k) (signedByte i)) j 0 l, tallied-long) (below j l);
           space = λ j.
               let e : getD counts j 0 ≡ getD (tallies n valueOf (firstRows k)) j 0 = ap (λ (c : List ℕ). getD c j 0) (t .are) in
               let l = tally-le valueOf n (firstRows k) j in let m = length-build (k * bytes) pairAt in

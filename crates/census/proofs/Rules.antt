@@ -11,11 +11,11 @@ use lib.ListN.{getD}
 use Rattle.num.specs.Lists.{build, tallies, having}
 use Rattle.num.specs.Root.{root, rootIn}
 use Rattle.num.specs.Sum.{total}
+use Rattle.num.specs.Wrap.{wrap16}
 use Rattle.num.proofs.Lists.{length-build, at-build}
 use Rattle.num.proofs.Partition.{all-build, partition, one-alone}
 use Rattle.num.proofs.Root.{root-fits, root-next}
 use Rattle.csi.specs.Features.{amplitudeOf}
-use Rattle.num.specs.Wrap.{wrap16}
 use Rattle.phase.specs.Angle.{angleOf, firstQuadrant, octantAngle, mirrorX, mirrorY}
 use Rattle.census.specs.Census.{Pair, bytes, signedByte, allPairs, sectorOf, sectorIn, amplitudes, sectors, census}
 use Rattle.census.specs.Rows.{pairs}

@@ -44,7 +44,6 @@ abbrev pub sectors : ℕ
 sectors = 8
 
 unfoldable pub census : Census
-unfolding sectorOf allPairs
 census =
     record {
       amplitude = tallies amplitudes (λ p. amplitudeOf (p .im) (p .re)) allPairs;

@@ -15,13 +15,13 @@ use Rattle.census.proofs.counted.Statement.{statement}
 use Rattle.census.proofs.counted.Tie as tie
 
 abbrev Inv-loop : tie.InvT-loop
-Inv-loop table amplitude₀ sector₀ k₀ amplitude sector k = Tallied amplitudeOf amplitudes amplitude-bound amplitude k × Tallied sectorIn sectors sector-bound sector k
+Inv-loop table amplitude₀ sector₀ k₀ amplitude sector k = Tallied amplitudeOf amplitudes amplitude k × Tallied sectorIn sectors sector k
 
 abbrev μ-loop : tie.MeasureT-loop
 μ-loop table amplitude₀ sector₀ k₀ amplitude sector k = bytes - k
 
 loop-holds : tie.Need-loop-holds Inv-loop μ-loop
-loop-holds c = (none-tallied _ _ _, none-tallied _ _ _)
+loop-holds c = (none-tallied _ _, none-tallied _ _)
 
 signed-byte-requires : tie.Need-signed-byte-requires Inv-loop μ-loop
 signed-byte-requires c κs = search needs
@@ -30,7 +30,7 @@ row-amplitudes-requires : tie.Need-row-amplitudes-requires Inv-loop μ-loop
 row-amplitudes-requires c κs = search needs
 
 slice-aggregate-add-row : tie.Need-slice-aggregate-add-row Inv-loop μ-loop
-slice-aggregate-add-row c = sym (tallied-long _ _ _ (c .before .before .before .before .loop .inv .0))
+slice-aggregate-add-row c = sym (tallied-long _ _ (c .before .before .before .before .loop .inv .0))
 
 -- the rows of a turn
 module _ (c : tie.After-row-amplitudes Inv-loop μ-loop) where
@@ -48,20 +48,20 @@ module _ (c : tie.After-row-sectors Inv-loop μ-loop) where
 add-row-requires : tie.Need-add-row-requires Inv-loop μ-loop
 unfolding rowAmplitudes
 add-row-requires c κs =
-    let v = c .before .before in let t = v .before .before .before in
-    rw (amplitude-row v) (countable amplitudeOf amplitudes amplitude-bound (t .loop .inv .0) (v .before .before .loop-test .taken) (omega arith))
+    let v = c .before .before in let t = v .before .before .before in let taken = v .before .before .loop-test .taken in
+    rw (amplitude-row v) (countable amplitudeOf amplitudes (t .loop .inv .0) taken (omega arith) (λ j l. amplitude-bound _ j taken l))
 
 row-sectors-requires : tie.Need-row-sectors-requires Inv-loop μ-loop
 row-sectors-requires c κs = search needs
 
 slice-aggregate-add-row-2 : tie.Need-slice-aggregate-add-row-2 Inv-loop μ-loop
-slice-aggregate-add-row-2 c = sym (tallied-long _ _ _ (c .before .before .before .before .before .before .before .before .before .loop .inv .1))
+slice-aggregate-add-row-2 c = sym (tallied-long _ _ (c .before .before .before .before .before .before .before .before .before .loop .inv .1))
 
 add-row-requires-2 : tie.Need-add-row-requires-2 Inv-loop μ-loop
 unfolding rowSectors
 add-row-requires-2 c κs =
-    let v = c .before .before in let im = v .before .before .before .before .before .before in let t = im .before .before in
-    rw (sector-row v) (countable sectorIn sectors sector-bound (t .loop .inv .1) (im .before .loop-test .taken) (omega arith))
+    let v = c .before .before in let im = v .before .before .before .before .before .before in let t = im .before .before in let taken = im .before .loop-test .taken in
+    rw (sector-row v) (countable sectorIn sectors (t .loop .inv .1) taken (omega arith) (λ j l. sector-bound _ j taken l))
 
 add-k : tie.Need-add-k Inv-loop μ-loop
 add-k c = search needs
@@ -75,15 +75,15 @@ loop-again c =
     let second = c .before in let v = second .before .before .before in
     let first = v .before .before in let u = first .before .before .before in
     let t = u .before .before .before in let taken = u .before .before .loop-test .taken in (
-      rw (first .add-row .ensures, amplitude-row u) (row-tallied _ _ _ (t .loop .inv .0) taken),
-      rw (second .add-row2 .ensures, sector-row v) (row-tallied _ _ _ (t .loop .inv .1) taken),
+      rw (first .add-row .ensures, amplitude-row u) (row-tallied _ _ (t .loop .inv .0) taken),
+      rw (second .add-row2 .ensures, sector-row v) (row-tallied _ _ (t .loop .inv .1) taken),
     )
 
 returns : tie.Need-returns Inv-loop μ-loop
 unfolding census
 returns c =
     let i = c .before .loop .inv in let done = c .loop-test .left in
-    rw (all-tallied _ _ _ (i .0) done, all-tallied _ _ _ (i .1) done)
+    rw (all-tallied _ _ (i .0) done, all-tallied _ _ (i .1) done)
 
 pub counted-spec : {M : Type 1} → statement M
 counted-spec =
