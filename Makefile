@@ -9,7 +9,7 @@
 # make compare-full    the room at full size, beside that: 10 minutes
 # make picture         docs/swap.svg, a swap of boards drawn by the Rust crate: 10 seconds beside the library
 # make angles          docs/angles.svg, the errors of all angles over the circle: 5 seconds, with the Rust's sources
-# make census          both lists of the pair census as text: a minute and a half on a new clone, since it is proved first, then a second
+# make census          both lists of the pair census as text: a minute on a new clone, since it is proved first, then a second
 # make census-picture  docs/census.svg, the pairs of each amplitude and sector, drawn by the Rust crate: 10 seconds beside the library
 # make bench           our time as a ratio to the Rust's: a minute
 .DEFAULT_GOAL := help
