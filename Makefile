@@ -11,9 +11,10 @@
 # make angles          docs/angles.svg, the errors of all angles over the circle: 5 seconds, with the Rust's sources
 # make census          both lists of the pair census as text: a minute on a new clone, since it is proved first, then a second
 # make census-picture  docs/census.svg, the pairs of each amplitude and sector, drawn by the Rust crate: 10 seconds beside the library
+# make tables          the four angle tables, a line an entry; TABLE='atan 1024' (or 256, or sine): the entries of one alone. Times as for make census
 # make bench           our time as a ratio to the Rust's: a minute
 .DEFAULT_GOAL := help
-.PHONY: help run test library header gateway dist compare compare-full oracle bench compare-room compare-room-scale compare-room-memory compare-roomlines picture angles census census-picture need-rt
+.PHONY: help run test library header gateway dist compare compare-full oracle bench compare-room compare-room-scale compare-room-memory compare-roomlines picture angles census census-picture tables need-rt
 
 # each crate X_c has calls for C, and a driver oracle/compare/X
 subjects := $(patsubst crates/%_c,%,$(wildcard crates/*_c))
@@ -98,11 +99,16 @@ census-picture:
 	cd gateway && cargo run --quiet --offline --example census > ../target/census.svg
 	mv target/census.svg docs/census.svg
 
-# the prover's words go to target/census.log
+# proves a program; the prover's words go to target/PROGRAM.log
+proved = mkdir -p target; rt check $(1) > target/$(1).log 2>&1 || { tail -n 20 target/$(1).log >&2; exit 1; }
+
 census: need-rt
-	@mkdir -p target
-	@rt check paircensus > target/census.log 2>&1 || { tail -n 20 target/census.log >&2; exit 1; }
+	@$(call proved,paircensus)
 	@target/bin/paircensus
+
+tables: need-rt
+	@$(call proved,angletables)
+	@target/bin/angletables$(if $(TABLE), | sed -n 's/^$(TABLE) [0-9]* //p' | grep . || { echo 'TABLE is atan or sine with 256 or 1024 behind it' >&2; exit 1; })
 
 # drawn by the oracle, which has the angles rounded down too
 angles:

@@ -636,6 +636,23 @@ struct volkjarp_census {
 /* Goes through all pairs and counts them, the same each time. Nothing is lent, nothing refused. */
 struct volkjarp_census census_count(void);
 
+/* ---- The angle tables ------------------------------------------------------------------------- */
+
+/* At 256 and at 1,024 steps there is one entry more. */
+#define VOLKJARP_COARSE_ENTRIES 257
+#define VOLKJARP_FINE_ENTRIES 1025
+
+/* Entry i of n steps is the whole number nearest the angle whose tangent is i / n, 65,536 to a turn:
+ * from 0 to 8,192. Fills all of `out`; nothing is refused. At 256 steps it is the table that
+ * phase_atan2_brad reads, and each fourth entry at 1,024 steps is one of it. docs/TABLES.md has the
+ * rule in whole numbers. */
+void tables_atan_256(uint16_t out[VOLKJARP_COARSE_ENTRIES]);
+void tables_atan_1024(uint16_t out[VOLKJARP_FINE_ENTRIES]);
+
+/* The same of the sine of i / n of a quarter turn, scaled to 16,384. */
+void tables_sine_256(uint16_t out[VOLKJARP_COARSE_ENTRIES]);
+void tables_sine_1024(uint16_t out[VOLKJARP_FINE_ENTRIES]);
+
 /* ---- Breathing and heart ---------------------------------------------------------------------- */
 
 /* First and last lag, in blocks. */

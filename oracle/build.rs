@@ -71,14 +71,14 @@ fn changed(mut text: String) -> String {
 fn unit_vector(text: &str) -> String {
     let table = part(text, "const SIN_QUARTER", "];\n");
     let function = part(text, "const fn unit_vector", "\n}\n");
-    format!("{table}\npub {function}")
+    format!("pub {table}\npub {function}")
 }
 
 /// The Rust's angle, unchanged: the text of the table and of the function.
 fn angle(text: &str) -> String {
     let table = part(text, "const ATAN_OCTANT", "];\n");
     let function = part(text, "pub const fn atan2_brad", "\n}\n");
-    format!("{table}\n{function}")
+    format!("pub {table}\n{function}")
 }
 
 /// From one text to the end of another.

@@ -260,6 +260,50 @@ static void census(void)
     CHECK(memcmp(c.sector, due.sector, sizeof c.sector) == 0);
 }
 
+/* A word before and behind what is lent. */
+struct lent {
+    uint16_t before, entry[VOLKJARP_FINE_ENTRIES], behind;
+};
+
+/* Makes a table in lent space, and looks at its length, its order and its last entry. */
+static struct lent table(void (*make)(uint16_t *), size_t entries, uint16_t last)
+{
+    enum { NONE = 0xaaaa };
+    struct lent t;
+    size_t i;
+
+    memset(&t, NONE & 0xff, sizeof t);
+    make(t.entry);
+    CHECK(t.before == NONE && t.behind == NONE);
+    CHECK(entries == VOLKJARP_FINE_ENTRIES || t.entry[entries] == NONE);
+    for (i = 1; i < entries; i++)
+        CHECK(t.entry[i - 1] <= t.entry[i]);
+    CHECK(t.entry[0] == 0 && t.entry[entries - 1] == last);
+    return t;
+}
+
+static void tables(void)
+{
+    const struct lent atans = table(tables_atan_256, VOLKJARP_COARSE_ENTRIES, 8192);
+    const struct lent sines = table(tables_sine_256, VOLKJARP_COARSE_ENTRIES, 16384);
+    const struct lent fine_atans = table(tables_atan_1024, VOLKJARP_FINE_ENTRIES, 8192);
+    const struct lent fine_sines = table(tables_sine_1024, VOLKJARP_FINE_ENTRIES, 16384);
+    int32_t square;
+    int i;
+
+    for (i = 0; i < VOLKJARP_COARSE_ENTRIES; i++)
+        CHECK(fine_atans.entry[4 * i] == atans.entry[i] && fine_sines.entry[4 * i] == sines.entry[i]);
+    for (i = 0; i < VOLKJARP_FINE_ENTRIES; i++) {
+        square = fine_sines.entry[i] * fine_sines.entry[i] +
+                 fine_sines.entry[VOLKJARP_FINE_ENTRIES - 1 - i] *
+                     fine_sines.entry[VOLKJARP_FINE_ENTRIES - 1 - i];
+        CHECK(abs(square - (1 << 28)) <= 24000);
+    }
+    /* the table that an angle is read from: half a turn less that of y / 128 */
+    for (i = 0; i <= INT8_MAX; i++)
+        CHECK(atans.entry[2 * i] == (uint16_t)(TURN / 2 - phase_atan2_brad((int8_t)i, -128)));
+}
+
 static void bands(void)
 {
     const struct volkjarp_vitals_config breathing = vitals_breathing(50), heart = vitals_heart(50);
@@ -400,6 +444,7 @@ int main(void)
     phases();
     phase_detector();
     census();
+    tables();
     bands();
     vitals();
     fall();

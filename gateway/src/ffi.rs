@@ -1,7 +1,8 @@
-//! The unit's calls and the sample's wire form, on slices, and the pair census. All unsafe code of
-//! this crate is here.
+//! The unit's calls and the sample's wire form, on slices; the pair census and the angle tables. All
+//! unsafe code of this crate is here.
 
 use crate::census::Census;
+use crate::tables::{COARSE_ENTRIES, FINE_ENTRIES};
 
 /// What settings need.
 #[repr(C)]
@@ -76,6 +77,10 @@ unsafe extern "C" {
         out_len: usize,
     ) -> Encoded;
     fn census_count() -> Census;
+    fn tables_atan_256(out: &mut [u16; COARSE_ENTRIES]);
+    fn tables_atan_1024(out: &mut [u16; FINE_ENTRIES]);
+    fn tables_sine_256(out: &mut [u16; COARSE_ENTRIES]);
+    fn tables_sine_1024(out: &mut [u16; FINE_ENTRIES]);
 }
 
 /// The length of memory that these settings need, or the refusal.
@@ -159,6 +164,31 @@ pub fn encode(h: &Header, iq: &[u8], out: &mut [u8]) -> Encoded {
 pub fn census() -> Census {
     // SAFETY: the call is lent nothing and has no state; it returns plain numbers by value.
     unsafe { census_count() }
+}
+
+/// A table, made in an array of its own.
+fn table<const N: usize>(make: unsafe extern "C" fn(&mut [u16; N])) -> [u16; N] {
+    let mut out = [0; N];
+    // SAFETY: `make` is one of the four calls above, each of which writes the entries of the array
+    // that it is lent and keeps nothing.
+    unsafe { make(&mut out) };
+    out
+}
+
+pub fn atan_256() -> [u16; COARSE_ENTRIES] {
+    table(tables_atan_256)
+}
+
+pub fn atan_1024() -> [u16; FINE_ENTRIES] {
+    table(tables_atan_1024)
+}
+
+pub fn sine_256() -> [u16; COARSE_ENTRIES] {
+    table(tables_sine_256)
+}
+
+pub fn sine_1024() -> [u16; FINE_ENTRIES] {
+    table(tables_sine_1024)
 }
 
 #[cfg(test)]

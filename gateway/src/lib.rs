@@ -82,6 +82,18 @@
 //! assert_eq!(census.sector, [8129, 8128, 8128, 8255, 8256, 8256, 8256, 8128]);
 //! ```
 //!
+//! # The angle tables
+//!
+//! [`tables`] makes the arctangents and sines that angles and unit vectors are read from, and the same
+//! at four times as many steps.
+//!
+//! ```
+//! use volkjarp::tables;
+//!
+//! assert_eq!(tables::atan_256()[..3], [0, 41, 81]);
+//! assert_eq!(tables::atan_1024()[..9], [0, 10, 20, 31, 41, 51, 61, 71, 81]);
+//! ```
+//!
 //! # Building
 //!
 //! Programs are linked with the unit's static library, for x86-64 Linux. The build script has it made
@@ -99,6 +111,7 @@ mod record;
 mod refusal;
 mod room;
 mod settings;
+pub mod tables;
 
 pub use answer::{ANSWER_LEN, Answer, Rate, Verdict};
 pub use census::{AMPLITUDES, Census, SECTORS, census};

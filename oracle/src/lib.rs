@@ -6,12 +6,12 @@ pub mod radar {
     include!(concat!(env!("OUT_DIR"), "/radar.rs"));
 }
 
-/// The Rust's own unit vectors, cut out of phase.rs as it is built.
+/// The Rust's own unit vectors and their table, cut out of phase.rs as it is built.
 pub mod vectors {
     include!(concat!(env!("OUT_DIR"), "/unit_vector.rs"));
 }
 
-/// The Rust's own angle, cut out of phase.rs before it is changed: the index is rounded down.
+/// The Rust's own angle and its table, cut out of phase.rs before it is changed: the index is rounded down.
 pub mod floored {
     include!(concat!(env!("OUT_DIR"), "/floored.rs"));
 }
@@ -24,6 +24,7 @@ pub mod detectors;
 pub mod differ;
 pub mod driver;
 pub mod errors;
+pub mod fixed;
 pub mod frames;
 pub mod kinds;
 pub mod layout;
@@ -37,6 +38,7 @@ pub mod room;
 pub mod samples;
 pub mod settings;
 pub mod streams;
+pub mod tables;
 pub mod timer;
 
 /// The numeric word at `position` (from 1) of the command line, or else `default`.

@@ -50,3 +50,11 @@ pub fn signed_byte(x: i8) {
 pub fn end_line() {
     text(b"\n");
 }
+
+// A line of a list: its name, a place and the number there.
+pub fn entry(name: &[u8], place: u64, n: u64) {
+    text(name);
+    number(place);
+    number(n);
+    end_line();
+}

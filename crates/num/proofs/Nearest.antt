@@ -1,8 +1,8 @@
 -- Laws of `nearest`. Assumes nothing.
-use mathlib.Core.Path.{_≡_, refl}
-use Prim.Native.Nat.{ℕ, _+_, _*_, _/_, _≤_, _<_}
+use mathlib.Core.Path.{_≡_, refl, sym}
+use Prim.Native.Nat.{ℕ, suc, _+_, _*_, _/_, _≤_, _<_}
 use native.Mathlib.Omega.{arith}
-use native.Mathlib.Nat.{div-lt-iff-lt-mul, le-div-iff-mul-le}
+use native.Mathlib.Nat.{div-lt-iff-lt-mul, le-div-iff-mul-le, mul-le-mul-left, mul-pos}
 use Rattle.num.specs.Nearest.{nearest, Nearest, RoundsToTheNearest}
 
 -- a half, by computation
@@ -27,3 +27,12 @@ rounds-to-the-nearest a b some = (close, only)
 -- a quotient of at most B is so when rounded
 pub nearest-le : (B n s : ℕ) → 1 ≤ n → s ≤ B * n → nearest s n ≤ B
 nearest-le B n s some h = let k : nearest s n < B + 1 = div-lt-iff-lt-mul {k = n} some .1 (omega arith) in omega arith
+
+-- both a and b times k
+pub nearest-times : (k a b : ℕ) → 1 ≤ k → 1 ≤ b → nearest (k * a) (k * b) ≡ nearest a b
+nearest-times k a b some more =
+    let r : ℕ = nearest a b in
+    let near = rounds-to-the-nearest a b more .0 in
+    let low : k * (2 * (r * b)) ≤ k * (2 * a + b) = mul-le-mul-left k (near .0) in
+    let high : k * suc (2 * a) ≤ k * (2 * (r * b) + b) = mul-le-mul-left k (near .1) in
+    sym (rounds-to-the-nearest (k * a) (k * b) (mul-pos some more) .1 r (omega arith, omega arith))

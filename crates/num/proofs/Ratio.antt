@@ -1,8 +1,8 @@
 -- Many numbers multiplied by c / t: the quotient is taken once, in s-ths and rounded up. A product with it has the right whole part
 -- wherever a * t is below s, and wherever a is at most s the right one or one more. Assumes nothing.
-use mathlib.Core.Path.{_≡_}
+use mathlib.Core.Path.{_≡_, ap, _∙_}
 use Prim.Native.Nat.{ℕ, suc, _+_, _-_, _*_, _/_, _≤_, _<_}
-use native.Mathlib.Nat.{one-mul, mul-one, mul-le-mul-left, mul-le-mul-right, lt-of-mul-lt-mul-right, le-of-mul-le-mul-right, div-mul-le-self, lt-div-mul-add, div-eq-of-lt-le}
+use native.Mathlib.Nat.{one-mul, mul-one, mul-le-mul-left, mul-le-mul-right, lt-of-mul-lt-mul-right, le-of-mul-le-mul-right, div-mul-le-self, lt-div-mul-add, div-eq-of-lt-le, div-le-of-le-mul, mul-div-mul-left}
 use native.Mathlib.Omega.{arith}
 
 module _ (a c t s : ℕ) (some : 0 < t) where
@@ -85,3 +85,10 @@ module _ (P w q x : ℕ) (some : 1 ≤ w) (small : (q + 1) * w * w < P) (few : x
       let a = lt-div-mul-add {a = x * (P / w + 1)} {b = P} (omega (arith, below)) in
       let b : x * (P / w + 1) / P * P ≤ q * P = mul-le-mul-right P (omega (arith, recip-div)) in
       omega arith
+
+-- ---- a number times s / q, rounded down: at most the number where the ratio is at most 1, and the same with both s and q times k
+pub part-le : (x s q : ℕ) → s ≤ q → x * s / q ≤ x
+part-le x s q h = div-le-of-le-mul q (omega (arith, mul-le-mul-left x h))
+
+pub part-times : (k : ℕ) → 1 ≤ k → (x s q : ℕ) → x * (k * s) / (k * q) ≡ x * s / q
+part-times k some x s q = let e : x * (k * s) ≡ k * (x * s) = omega arith in ap (λ (a : ℕ). a / (k * q)) e ∙ mul-div-mul-left (x * s) q some

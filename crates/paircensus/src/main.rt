@@ -1,10 +1,7 @@
 // Prints the pair census: a line for each amplitude, then for each sector, with its number and how many pairs fall there.
 fn print(name: &[u8], counts: &[u32]) {
     for k in 0..counts.len() {
-        cases::text(name);
-        cases::number(k as u64);
-        cases::number(counts[k] as u64);
-        cases::end_line();
+        cases::entry(name, k as u64, counts[k] as u64);
     }
 }
 

@@ -15,28 +15,17 @@ abbrev μ-loop : tie.MeasureT-loop
 loop-holds : tie.Need-loop-holds Inv-loop μ-loop
 loop-holds c = search needs
 
-text-requires : tie.Need-text-requires Inv-loop μ-loop
-text-requires c κs = search needs
+mul-entry : tie.Need-mul-entry Inv-loop μ-loop
+mul-entry c = search needs
 
-number-requires : tie.Need-number-requires Inv-loop μ-loop
-number-requires c κs = search needs
+shared-slice-read-entry : tie.Need-shared-slice-read-entry Inv-loop μ-loop
+shared-slice-read-entry c = search needs
 
-mul-number : tie.Need-mul-number Inv-loop μ-loop
-mul-number c = search needs
+cast-entry : tie.Need-cast-entry Inv-loop μ-loop
+cast-entry c = let small = c .shared-slice-known3 .given (c .before .before .loop .k) .fits in record { fits = omega arith }
 
-shared-slice-read-number : tie.Need-shared-slice-read-number Inv-loop μ-loop
-shared-slice-read-number c = search needs
-
-cast-number : tie.Need-cast-number Inv-loop μ-loop
-cast-number c =
-    let small = c .shared-slice-known3 .given (c .before .before .before .before .loop .k) .fits in
-    record { fits = omega arith }
-
-number-requires-2 : tie.Need-number-requires-2 Inv-loop μ-loop
-number-requires-2 c κs = search needs
-
-end-line-requires : tie.Need-end-line-requires Inv-loop μ-loop
-end-line-requires c κs = search needs
+entry-requires : tie.Need-entry-requires Inv-loop μ-loop
+entry-requires c κs = search needs
 
 add-k : tie.Need-add-k Inv-loop μ-loop
 add-k c = search needs
@@ -57,13 +46,10 @@ print-spec =
     Inv-loop
     μ-loop
     loop-holds
-    text-requires
-    number-requires
-    mul-number
-    shared-slice-read-number
-    cast-number
-    number-requires-2
-    end-line-requires
+    mul-entry
+    shared-slice-read-entry
+    cast-entry
+    entry-requires
     add-k
     loop-less
     loop-again

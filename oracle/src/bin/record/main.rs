@@ -1,6 +1,7 @@
 //! Writes the recorded inputs and answers of a subject: `record SUBJECT [FOLDER OF THE CRATES]`.
 //! The subject's program reads its file stdin and must print its file stdout, the Rust's answers.
 
+mod angletables;
 mod csi;
 mod csi_stream;
 mod detector;
@@ -35,6 +36,7 @@ fn record(subject: &str) -> Option<(&'static str, Recorded)> {
         "phase_detector" => ("phase_detector_cases", phase_detector::cases().into()),
         "presence" => ("presence_cases", presence::cases().into()),
         "vitals" => ("vitals_cases", vitals::cases().into()),
+        "angletables" => ("angletables", angletables::recorded()),
         "paircensus" => ("paircensus", paircensus::recorded()),
         "roomlines" => ("roomlines", roomlines()),
         _ => return None,
