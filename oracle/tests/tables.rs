@@ -1,6 +1,10 @@
 //! What docs/TABLES.md says of the tables and of their rule.
 
+use std::sync::LazyLock;
+
+use oracle::errors::{Errors, pairs};
 use oracle::fixed::{Fixed, INVERSE_PI, PI, arctangent, sine};
+use oracle::radar::phase::atan2_brad;
 use oracle::tables::{ATAN, HALF_TURN, RULE, Rule, SINE, STEPS, Table, UNIT, lines, tables};
 
 /// So many decimal digits behind the point, the rest left out.
@@ -156,6 +160,74 @@ fn entries_never_fall() {
         (0, 16_384, 26),
     ];
     assert_eq!(shapes, expected);
+}
+
+/// The angle of (x, y), read at the nearest index of a table of arctangents.
+fn read(table: &[u16], y: i32, x: i32) -> i16 {
+    let steps = table.len() as i32 - 1;
+    let (low, high) = (y.abs().min(x.abs()), y.abs().max(x.abs()));
+    let index = (low * steps + high / 2) / high.max(1);
+    let octant = i32::from(table[index as usize]);
+    let quadrant = if y.abs() > x.abs() {
+        16_384 - octant
+    } else {
+        octant
+    };
+    let half = if x < 0 { 32_768 - quadrant } else { quadrant };
+    if y < 0 { -half as i16 } else { half as i16 }
+}
+
+static FINE: LazyLock<Vec<u16>> = LazyLock::new(|| ATAN.nearest(STEPS[1]));
+
+#[test]
+fn what_a_finer_table_brings() {
+    let coarse = ATAN.nearest(STEPS[0]);
+    assert!(pairs().all(|(y, x)| read(&coarse, y, x) == atan2_brad(y, x)));
+    let told = [atan2_brad, |y, x| read(&FINE, y, x)].map(|angle| Errors::of(angle).to_string());
+    let expected = [
+        "mean 7.79 (0.043°), largest 20.5 (0.113°), ",
+        "mean 1.95 (0.011°), largest 5.4 (0.030°), ",
+    ];
+    for (told, expected) in told.iter().zip(expected) {
+        assert!(told.starts_with(expected), "{told}");
+    }
+}
+
+/// At half of the steps: the rule's value before its last rounding, and the true one.
+#[test]
+fn the_worked_entry() {
+    let expected = [
+        (ATAN, 4_836, ["4836.01998291", "4836.01998317"]),
+        (SINE, 11_585, ["11585.23750305", "11585.23750296"]),
+    ];
+    for (n, (table, entry, values)) in STEPS.into_iter().flat_map(|n| expected.map(|e| (n, e))) {
+        let ruled = (table.by_rule)(&RULE, n / 2, n);
+        assert_eq!(ruled.nearest(), entry);
+        let told = [ruled.value(), (table.true_value)(n / 2, n)];
+        assert_eq!(told.map(|value| format!("{:.8}", f64::from(value))), values);
+    }
+    assert_eq!(RULE.atan(1, 2).a, 12_677_336_224 * 2);
+}
+
+/// x from a₇ to a₀.
+#[test]
+fn the_worked_sine() {
+    let mut x = 0;
+    let brackets = RULE.a.iter().rev().map(|a| {
+        x = a - x / 4;
+        x
+    });
+    let expected = [
+        11,
+        976,
+        61_584,
+        2_740_963,
+        79_746_684,
+        1_349_172_223,
+        10_760_285_638,
+        24_296_004_000,
+    ];
+    assert!(brackets.eq(expected));
 }
 
 /// The tolerance is 24,000.
