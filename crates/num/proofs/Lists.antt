@@ -2,13 +2,13 @@
 -- Assumes nothing.
 use mathlib.Core.Path.{_≡_, refl, sym, ap, _∙_}
 use mathlib.Core.Bool.{Bool, true, false, cond}
-use mathlib.Core.List.{List, [], _∷_, _++_, map, append-nil}
+use mathlib.Core.List.{List, [], _∷_, _++_, map, append-nil, reverse, reverse-cons}
 use mathlib.Core.Logic.{by-cases}
 use Prim.Native.Nat.{ℕ, zero, suc, _+_, _-_, min, _<_, _≤_}
-use native.Mathlib.Decide.{decLe}
+use native.Mathlib.Decide.{decLe, decLt}
 use native.Mathlib.Omega.{arith}
-use lib.ListN.{length, getD, take, drop, replicate}
-use lib.Seq.{ext-getD, take-all, take-length}
+use lib.ListN.{length, getD, take, drop, replicate, length-append, List·getD-append}
+use lib.Seq.{ext-getD, getD-at, take-all, take-length}
 use Rattle.num.specs.Lists.{build, keep}
 
 module _ {A : Type 0} where
@@ -76,6 +76,30 @@ pub map-at : {A B : Type 0} (f : A → B) (l : List A) (k : ℕ) (a : A) (b : B)
 map-at f [] k a b h = absurd (omega arith)
 map-at f (x ∷ xs) zero a b h = refl
 map-at f (x ∷ xs) (suc k) a b h = map-at f xs k a b (omega arith)
+
+-- the entries from the end on
+pub reverse-long : {A : Type 0} (l : List A) → length (reverse l) ≡ length l
+reverse-long [] = refl
+reverse-long (x ∷ l) = ap length (reverse-cons x l) ∙ length-append (reverse l) (x ∷ []) ∙ let e = reverse-long l in omega arith
+
+module _ {A : Type 0} (x d : A) (l : List A) (k : ℕ) where
+  reverse-last : k ≡ length l → getD (reverse l ++ (x ∷ [])) k d ≡ getD (x ∷ l) (length l - k) d
+  reverse-last e =
+      let none : length l - k ≡ 0 = omega arith in
+      getD-at (reverse l) x [] d k (reverse-long l ∙ sym e) ∙ ap (λ (j : ℕ). getD (x ∷ l) j d) (sym none)
+
+  reverse-before : k < length l → getD (reverse l) k d ≡ getD l (length l - 1 - k) d → getD (reverse l ++ (x ∷ [])) k d ≡ getD (x ∷ l) (length l - k) d
+  reverse-before h e =
+      let one : length l - k ≡ suc (length l - 1 - k) = omega arith in
+      List·getD-append (reverse l) (x ∷ []) d k (omega (arith, reverse-long l)) ∙ e ∙ ap (λ (j : ℕ). getD (x ∷ l) j d) (sym one)
+
+pub at-reverse : {A : Type 0} (l : List A) (k : ℕ) (d : A) → k < length l → getD (reverse l) k d ≡ getD l (length l - 1 - k) d
+at-reverse [] k d h = absurd (omega arith)
+at-reverse (x ∷ l) k d h =
+    let e : length l - k ≡ suc (length l) - 1 - k = omega arith in
+    ap (λ (r : List _). getD r k d) (reverse-cons x l)
+    ∙ by-cases (decLt k (length l)) (λ b. reverse-before x d l k b (at-reverse l k d b)) (λ b. reverse-last x d l k (omega arith))
+    ∙ ap (λ (j : ℕ). getD (x ∷ l) j d) e
 
 -- a part of it is made of that part of the list
 module _ {A B : Type 0} (f : A → B) where

@@ -1,30 +1,25 @@
--- The rules of `specs/Rules.antt`, each from one test that antt computes over the whole table; and what the order gives of any
+-- The rules of `specs/Rules.antt`, each from one test that antt computes in one pass over the table; and what the order gives of any
 -- two entries. Assumes nothing.
-use mathlib.Core.Path.{_≡_, refl, ap}
+use mathlib.Core.Path.{_≡_, ap, subst, _∙_}
 use mathlib.Core.Bool.{Bool, _&&_}
-use mathlib.Core.List.{List, [], _∷_}
+use mathlib.Core.List.{List, reverse}
 use Prim.Native.Nat.{ℕ, zero, suc, _+_, _-_, _≤_, _<_}
-use native.Mathlib.Nat.{le-of-suc-le-suc, not-suc-le-zero}
 use native.Mathlib.Omega.{arith}
-use lib.Dec.{T, leb, eqb, eqb→eq}
-use lib.ListN.{length, getD}
-use Rattle.num.specs.Sum.{apart}
+use lib.Dec.{T, leb, eqb, eqb→eq, leb→le}
+use lib.ListN.{length, getD, drop, length-drop}
+use lib.Seq.{getD-drop}
+use Rattle.num.specs.Sum.{apart, square}
 use Rattle.num.specs.Rules.{Ascends, SquaresNear, squares}
-use Rattle.num.proofs.Table.{each-of, every, at-le}
-
--- within a list the default does not show
-pub getD-any : {A : Type 0} (xs : List A) (i : ℕ) (d e : A) → i < length xs → getD xs i d ≡ getD xs i e
-getD-any [] i d e h = absurd (not-suc-le-zero h)
-getD-any (x ∷ xs) zero d e h = refl
-getD-any (x ∷ xs) (suc i) d e h = getD-any xs i d e (le-of-suc-le-suc h)
+use Rattle.num.proofs.Lists.{reverse-long, at-reverse}
+use Rattle.num.proofs.Table.{each-of, pairwise, at-pair}
 
 module _ (n top : ℕ) (table : List ℕ) where
-  -- the test: n entries from 0 to `top`, none above the one after it, where `top` stands after the last
+  -- the test: n entries from 0 to `top`, none above the one after it
   abbrev ends : Bool
   ends = eqb (getD table 0 1) 0 && eqb (getD table (n - 1) 0) top
 
   abbrev rising : Bool
-  rising = every (λ i x. leb x (getD table (i + 1) top)) table
+  rising = pairwise leb table (drop 1 table)
 
   abbrev pub ascending : Bool
   ascending = eqb (length table) n && (ends && rising)
@@ -40,8 +35,9 @@ module _ (n top : ℕ) (table : List ℕ) where
         first = eqb→eq (getD table 0 1) 0 first;
         last = eqb→eq (getD table (n - 1) 0) top last;
         order = λ i h. (
-            let k = at-le (λ i x. x) (λ i x. getD table (i + 1) top) table order i (omega arith) in
-            let e = getD-any table (i + 1) top 0 (omega arith) in omega arith
+            let next : getD (drop 1 table) i 0 ≡ getD table (i + 1) 0 = getD-drop 1 table i 0 ∙ (let e : 1 + i ≡ i + 1 = omega arith in ap (λ j. getD table j 0) e) in
+            let below = leb→le (getD table i 0) (getD (drop 1 table) i 0) (at-pair leb table (drop 1 table) order i (omega arith) (omega (arith, length-drop 1 table))) in
+            omega arith
             );
       }
 
@@ -59,15 +55,21 @@ module _ {n top : ℕ} {table : List ℕ} (a : Ascends n top table) where
       omega (arith, ascends i (n - 1 - i) (omega arith), a .last)
 
 module _ (n whole tolerance : ℕ) (table : List ℕ) where
-  -- the test: n entries, and the distance at each place
+  -- the test: n entries, each with the one as far from the other end
+  abbrev close : ℕ → ℕ → Bool
+  close a b = leb (apart (square a + square b) whole) tolerance
+
   abbrev pub near : Bool
-  near = eqb (length table) n && every (λ i x. leb (apart (squares n table i) whole) tolerance) table
+  near = eqb (length table) n && pairwise close table (reverse table)
 
   pub near-by : T near → SquaresNear n whole tolerance table
   near-by t =
-      let (all, distances) = each-of (eqb (length table) n) (every (λ i x. leb (apart (squares n table i) whole) tolerance) table) t in
+      let (all, distances) = each-of (eqb (length table) n) (pairwise close table (reverse table)) t in
       let long : length table ≡ n = eqb→eq (length table) n all in
       record {
         long = long;
-        near = λ i h. at-le (λ i x. apart (squares n table i) whole) (λ i x. tolerance) table distances i (omega arith);
+        near = λ i h. (
+            let opposite : getD (reverse table) i 0 ≡ getD table (n - 1 - i) 0 = at-reverse table i 0 (omega arith) ∙ ap (λ m. getD table (m - 1 - i) 0) long in
+            leb→le (apart (squares n table i) whole) tolerance (subst (λ (b : ℕ). T (close (getD table i 0) b)) opposite (at-pair close table (reverse table) distances i (omega arith) (omega (arith, reverse-long table))))
+            );
       }
