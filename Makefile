@@ -1,6 +1,6 @@
 # make help            this list
 # make run             the lines of a sample stream: 5 to 8 minutes on a new clone, since they are proved first, then 2 seconds
-# make test            the gate: proofs, edits that must fail, recorded cases, tests, comparisons, pace: 45 to 70 minutes
+# make test            the gate: proofs, edits that must fail, recorded cases, tests, comparisons, pace: 45 to 85 minutes
 # make library         target/staticlib/libvolkjarp.a, all calls for C and Rust: 8 to 12 minutes on a new clone, then a second
 # make header          the library from C: layouts, every call, the example: 5 seconds beside the library
 # make gateway         the tests of the Rust crate: 10 seconds beside the library
@@ -15,6 +15,9 @@
 # make bench           our time as a ratio to the Rust's: a minute
 .DEFAULT_GOAL := help
 .PHONY: help run test library header gateway dist compare compare-full oracle bench compare-room compare-room-scale compare-room-memory compare-roomlines picture angles census census-picture tables need-rt
+
+# cargo has jobs of its own
+unexport MAKEFLAGS
 
 # each crate X_c has calls for C, and a driver oracle/compare/X
 subjects := $(patsubst crates/%_c,%,$(wildcard crates/*_c))
