@@ -17,7 +17,7 @@
 .PHONY: help run test library header gateway dist compare compare-full oracle bench compare-room compare-room-scale compare-room-memory compare-roomlines picture angles census census-picture tables need-rt
 
 # cargo has jobs of its own
-unexport MAKEFLAGS
+unexport MAKEFLAGS MFLAGS
 
 # each crate X_c has calls for C, and a driver oracle/compare/X
 subjects := $(patsubst crates/%_c,%,$(wildcard crates/*_c))
