@@ -7,7 +7,6 @@ pub mod Byte
 pub mod Clamp
 pub mod Cond
 pub mod Counting
-pub mod Declared
 pub mod Diff
 pub mod Divisor
 pub mod Dot

@@ -7,8 +7,7 @@ use borrow.Author.Rules.{rules}
 use lib.Dec.{lit<}
 use Rattle.num.specs.Root.{Near}
 use Rattle.num.proofs.Estimate.{near-line, near-finer, near-least, near-most}
-use Rattle.num.proofs.near.Statement.{statement}
-use Rattle.num.proofs.near.Tie as tie
+use Rattle.num.proofs.near.Goals as goal
 
 abbrev first : ℕ → ℕ
 first n = (n / 2 ^ 24 + 148) / 24
@@ -29,33 +28,18 @@ module _ (n : ℕ) (low : 2 ^ 30 ≤ n) (high : n < 2 ^ 32) where
   second-least : 2 ^ 7 ≤ second n
   second-least = near-least (n / 2 ^ 16) (second n) (2 ^ 7) near-second (omega arith)
 
-add_a : tie.Need-overflow-add-a
-add_a c = search rules
+pub overflow_add-b : goal.overflow_add-b
+overflow_add-b c = omega (arith, second-most c.args.n c.requires c.ranges.n.fits)
 
-mul-b : tie.Need-overflow-mul-b
-mul-b c = search rules
+pub overflow_mul-result : goal.overflow_mul-result
+overflow_mul-result c = omega (arith, second-most c.args.n c.requires c.ranges.n.fits)
 
-div-b : tie.Need-nonzero-div-b
-div-b c = search rules
-
-add-b : tie.Need-overflow-add-b
-add-b c = omega (arith, second-most c.args.n c.requires c.ranges.n.fits)
-
-mul-result : tie.Need-overflow-mul-result
-mul-result c = omega (arith, second-most c.args.n c.requires c.ranges.n.fits)
-
-div-result : tie.Need-nonzero-div-result
-div-result c = search rules
-
-add-result : tie.Need-overflow-add-result
-add-result c =
+pub overflow_add-result : goal.overflow_add-result
+overflow_add-result c =
     let n : ℕ = c.args.n in
     omega (arith, second-most n c.requires c.ranges.n.fits, div-le_self (n / 2 ^ 9) (second n))
 
-returns : tie.Need-returns
+pub returns : goal.returns
 returns c =
     let n : ℕ = c.args.n in
     near-finer 128 (second n) n (lit< tt) (second-least n c.requires c.ranges.n.fits) (near-second n c.requires c.ranges.n.fits)
-
-pub near-spec : {M : Type 1} → statement M
-near-spec = tie.close (tie.spec add_a mul-b div-b add-b mul-result div-result add-result returns)

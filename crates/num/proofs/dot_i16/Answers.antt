@@ -17,14 +17,8 @@ use Rattle.num.proofs.Abs.{sfits-abs, abs-sfits, abs-add, abs-mul}
 use Rattle.num.proofs.Fill.{next, done}
 use Rattle.num.proofs.Sum.{dot-terms}
 use Rattle.num.proofs.Read.{to64, read-16-64}
-use Rattle.num.proofs.dot_i16.Statement.{statement}
-use Rattle.num.proofs.dot_i16.Tie as tie
-
--- the products of the first k elements are summed up, of n
-record Summed (xs ys : List ℤ) (n : ℕ) (sum : ℤ) (k : ℕ) : Type 0 where
-  within : k ≤ n
-  split : dot_z (take n xs) ys ≡ sum +ℤ dot_z (drop k (take n xs)) (drop k ys)
-  small : nat_abs sum ≤ 2 ^ 30 * k
+use Rattle.num.proofs.dot_i16.Invariants.{Summed}
+use Rattle.num.proofs.dot_i16.Goals as goal
 
 start : (xs ys : List ℤ) (n : ℕ) → Summed xs ys n (pos 0) 0
 start xs ys n = record { within = omega arith; split = sym (+ℤ_idl (dot_z (take n xs) ys)); small = omega arith }
@@ -65,88 +59,40 @@ unfolding dot_z
 finish {xs} {ys} {n} {sum} {k} w h most =
     sym (dot-terms xs ys n max_terms most ∙ w.split ∙ ap (λ zs. sum +ℤ dot_z zs (drop k ys)) (done xs n k h (omega arith)) ∙ +ℤ_idr sum)
 
-abbrev invariant-loop : tie.invariant-loop
-invariant-loop a b n sum₀ k₀ sum k = Summed a b n (to_z w64 sum) k
-
-abbrev decreases-loop : tie.decreases-loop
-decreases-loop a b n sum₀ k₀ sum k = n - k
-
-terms-requires : tie.Need-terms-requires invariant-loop decreases-loop
-terms-requires c κs = search rules
-
-loop-holds : tie.Need-loop-init invariant-loop decreases-loop
-loop-holds c = start c.before.args.a.now c.before.args.b.now c.terms.result
-
-mul-x : tie.Need-overflow-mul-x invariant-loop decreases-loop
-mul-x c = search rules
-
-shared-slice-copy-out-x : tie.Need-shared-slice-copy-out-x invariant-loop decreases-loop
-shared-slice-copy-out-x c = search rules
-
-mul-y : tie.Need-overflow-mul-y invariant-loop decreases-loop
-mul-y c = search rules
-
-shared-slice-copy-out-y : tie.Need-shared-slice-copy-out-y invariant-loop decreases-loop
-shared-slice-copy-out-y c = search rules
-
 -- in a turn: what was read, and what the turn gives
-module _ (c : tie.After-y invariant-loop decreases-loop) where
-  x_fits : SFits w16 (get_or c.before.before.before.before.before.args.a.now c.before.before.before.loop.k (pos 0))
-  x_fits = sfits_of c.before.x.given
+module _ (c : goal.After-y-1) where
+  x_fits : SFits w16 (get_or c.args.a.now c.loop-k.k (pos 0))
+  x_fits = sfits_of c.x-1.given
 
-  y-fits : SFits w16 (get_or c.before.before.before.before.before.args.b.now c.before.before.before.loop.k (pos 0))
-  y-fits = sfits_of c.y.given
+  y-fits : SFits w16 (get_or c.args.b.now c.loop-k.k (pos 0))
+  y-fits = sfits_of c.y-1.given
 
-  gives : Turn c.before.before.before.before.before.args.a.now c.before.before.before.before.before.args.b.now c.before.before.before.before.terms.result (to_z w64 c.before.before.before.loop.sum) c.before.before.before.loop.k
+  gives : Turn c.args.a.now c.args.b.now c.terms-n.result (to_z w64 c.loop-k.sum-bits) c.loop-k.k
   gives =
-      turn c.before.before.before.loop.invariant c.before.before.loop-test.true c.before.before.before.before.terms.ensures x_fits y-fits
+      turn c.loop-k.invariant c.loop-k-test.true c.terms-n.ensures x_fits y-fits
 
-cast-sum : tie.Need-overflow-cast-sum invariant-loop decreases-loop
-cast-sum c = rw (to_z-of_z (x_fits c)) (to64 (x_fits c))
+pub loop-k-init : goal.loop-k-init
+loop-k-init c = start c.args.a.now c.args.b.now c.terms-n.result
 
-cast-sum-2 : tie.Need-overflow-cast-sum-2 invariant-loop decreases-loop
-cast-sum-2 c = rw (to_z-of_z (y-fits c)) (to64 (y-fits c))
+pub overflow_cast-sum : goal.overflow_cast-sum
+overflow_cast-sum c = rw (to_z-of_z (x_fits c)) (to64 (x_fits c))
 
-mul-sum : tie.Need-overflow-mul-sum invariant-loop decreases-loop
-mul-sum c =
+pub overflow_cast-sum-in-loop-k : goal.overflow_cast-sum-in-loop-k
+overflow_cast-sum-in-loop-k c = rw (to_z-of_z (y-fits c)) (to64 (y-fits c))
+
+pub overflow_mul-sum : goal.overflow_mul-sum
+overflow_mul-sum c =
     rw (to_z-of_z (x_fits c), to_z-of_z (y-fits c), read-16-64 (x_fits c), read-16-64 (y-fits c)) (gives c).term_fits
 
-add-sum : tie.Need-overflow-add-sum invariant-loop decreases-loop
-add-sum c =
+pub overflow_add-sum : goal.overflow_add-sum
+overflow_add-sum c =
     rw (to_z-of_z (x_fits c), to_z-of_z (y-fits c), read-16-64 (x_fits c), read-16-64 (y-fits c), to_z-of_z (gives c).term_fits)
     (gives c).sum_fits
 
-add-k : tie.Need-overflow-add-k invariant-loop decreases-loop
-add-k c = search rules
-
-loop-less : tie.Need-loop-smaller invariant-loop decreases-loop
-loop-less c = search rules
-
-loop-again : tie.Need-loop-preserved invariant-loop decreases-loop
-loop-again c =
+pub loop-k-preserved : goal.loop-k-preserved
+loop-k-preserved c =
     rw (to_z-of_z (x_fits c), to_z-of_z (y-fits c), read-16-64 (x_fits c), read-16-64 (y-fits c), to_z-of_z (gives c).term_fits, to_z-of_z (gives c).sum_fits)
     (gives c).summed
 
-returns : tie.Need-returns invariant-loop decreases-loop
-returns c = finish c.before.loop.invariant c.loop-test.false c.before.before.terms.ensures
-
-pub dot-i16-spec : {M : Type 1} → statement M
-dot-i16-spec =
-    tie.close
-    (tie.spec
-    invariant-loop
-    decreases-loop
-    terms-requires
-    loop-holds
-    mul-x
-    shared-slice-copy-out-x
-    mul-y
-    shared-slice-copy-out-y
-    cast-sum
-    cast-sum-2
-    mul-sum
-    add-sum
-    add-k
-    loop-less
-    loop-again
-    returns)
+pub returns : goal.returns
+returns c = finish c.loop-k.invariant c.loop-k-test.false c.terms-n.ensures
