@@ -1,4 +1,6 @@
 // Prints the four tables, a line for each entry: the table, its steps, the place, the entry.
+#![tactic(auto)]
+
 use tables::{COARSE_ENTRIES, FINE_ENTRIES};
 
 fn print(name: &[u8], table: &[u16]) {

@@ -1,8 +1,10 @@
 // What the programs that replay recorded cases share: a case read from standard input, and the words and numbers of a line.
+#![tactic(auto)]
+
 use libc::{STDIN_FILENO, STDOUT_FILENO};
 
 // The bytes of one case that `next` read to the front of its buffer, or the end of the cases.
-#[derive(Drop)]
+#[derive(Clone, Copy)]
 pub enum Case {
     Bytes(usize),
     End,

@@ -1,4 +1,6 @@
 // How all I/Q pairs fill the amplitudes and the sectors of the circle (docs/SPEC.md, "The pair census").
+#![tactic(auto)]
+
 ghost use Rattle.std.specs.Prelude.{◌≡◌, ◌<◌, length};
 ghost use Rattle.num.specs.Lists.{tallies, plus};
 ghost use Rattle.phase.specs.Tables.{atan_octant};
@@ -20,7 +22,7 @@ const SECTOR: u16 = 8192;
 
 // For each amplitude, and for each sector, how many pairs fall there.
 #[repr(C)]
-#[derive(Drop)]
+#[derive(Clone, Copy)]
 pub struct Census {
     pub amplitude: [u32; AMPLITUDES],
     pub sector: [u32; SECTORS],

@@ -1,6 +1,8 @@
 // How often chance makes a fall (docs/SPEC.md, "How often chance makes a fall"): of all sequences of wander values out of one to four choices, how
 // many make how many events. There are up to 4^24 sequences, so frames are taken from the last to the first, with a count for each state that the
 // machine can be in and each number of events.
+#![tactic(auto)]
+
 ghost use Rattle.std.specs.Prelude.{◌≡◌, true, ◌*◌, ◌≤◌, ◌<◌, length};
 ghost use Rattle.chance.specs.Chance.{said, chances_answer, max_spacing, max_frames, max_choices, counts_of, refused_answer};
 ghost use Rattle.chance.specs.Marks.{phase_of, since_mark, quiet_mark, burst_mark, still_mark, end_mark, next_mark, reached, places, entries, place_of, mark_at, ways_at, empty_entry, empty_table, stepped, term_of, sum_of, entry_of, table_of, resting_counts, Whole};
@@ -41,14 +43,14 @@ const ENTRIES: usize = LAYERS * PLACES;
 
 // A refusal's number, or 0 and how many sequences make 0, 1, .., 24 events.
 #[repr(C)]
-#[derive(Drop)]
+#[derive(Clone, Copy)]
 pub struct Chances {
     pub refusal: u8,
     pub counts: [u64; COUNTS],
 }
 
 // A state of the machine, with frames for times.
-#[derive(Drop)]
+#[derive(Clone, Copy)]
 enum Mark {
     Resting,
     Moving(usize),

@@ -1,4 +1,6 @@
 // The call of `chance` from C and Rust. A slice is two parameters there, a pointer and a length.
+#![tactic(auto)]
+
 ghost use Rattle.std.specs.Prelude.{◌≡◌};
 ghost use Rattle.chance.specs.Chance.{chances_answer};
 

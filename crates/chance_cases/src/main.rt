@@ -1,4 +1,6 @@
 // Replays recorded questions of how often chance makes a fall: a line for each. `stdout` holds the counts of the Rust's machine.
+#![tactic(auto)]
+
 ghost use Rattle.std.specs.Prelude.{◌≡◌, length};
 
 use cases::{Case, number, text};

@@ -1,4 +1,6 @@
 // Amplitudes of a channel sample (csi.rs).
+#![tactic(auto)]
+
 ghost use Rattle.std.specs.Prelude.{◌≡◌, ◌-◌, ◌*◌, ◌<◌, length};
 ghost use Rattle.csi.specs.Features.{normalised_answer, refused};
 ghost use Rattle.csi.specs.Layout.{known, entries_of, need_of};
@@ -14,7 +16,7 @@ pub const MAX_SUBCARRIERS: usize = num::MAX_SUBCARRIERS;
 
 // Which entries of the I/Q bytes carry data: start to end and start2 to end2, without the upper ends. Entry k is the bytes
 // 2k (imaginary) and 2k + 1 (real); `entries` is how many of them the bytes hold.
-#[derive(Drop)]
+#[derive(Clone, Copy)]
 pub struct Layout {
     pub start: u8,
     pub end: u8,
@@ -105,7 +107,7 @@ impl Layout {
 
 // Amplitudes, of which the first `count` are in use, with their mean and variance.
 #[repr(C)]
-#[derive(Drop)]
+#[derive(Clone, Copy)]
 pub struct Features {
     pub amplitude: [u16; MAX_SUBCARRIERS],
     pub count: u8,
@@ -115,7 +117,7 @@ pub struct Features {
 
 // What a call answers: refusal 0 and the features, or a refusal's number and no features.
 #[repr(C)]
-#[derive(Drop)]
+#[derive(Clone, Copy)]
 pub struct Measured {
     pub refusal: u8,
     pub features: Features,

@@ -1,4 +1,6 @@
 // Calls of csi from C and Rust.
+#![tactic(auto)]
+
 ghost use Rattle.std.specs.Prelude.{◌≡◌, length};
 ghost use Rattle.csi.specs.Features.{features_of, normalised_of, features_answer, normalised_answer, answered};
 ghost use Rattle.csi.specs.Layout.{frame_refusal};

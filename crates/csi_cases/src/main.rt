@@ -1,5 +1,7 @@
 // Replays recorded frames and hand-made features: a line for each. `stdout` holds what the Rust answered, and for what the Rust does
 // not refuse, document 01's number.
+#![tactic(auto)]
+
 ghost use Rattle.std.specs.Prelude.{◌<◌, ◌≤◌, length};
 
 use cases::Case;

@@ -1,4 +1,6 @@
 // One channel sample on the wire, version 1 (csi_stream.rs): 13 header bytes, then the I/Q bytes.
+#![tactic(auto)]
+
 mod features;
 pub mod steps;
 mod wire;
@@ -25,7 +27,7 @@ pub(crate) const TIME_AT: usize = 4;
 pub(crate) const COUNT_AT: usize = 12;
 
 // The numbers of one sample. The I/Q bytes are a slice beside it, whose length is the Rust's `len`.
-#[derive(Drop)]
+#[derive(Clone, Copy)]
 pub struct Sample {
     pub at: u64,
     pub rssi: i8,
@@ -34,14 +36,14 @@ pub struct Sample {
 }
 
 // What decoding answers: the sample and its number of I/Q bytes, or a refusal's number.
-#[derive(Drop)]
+#[derive(Clone, Copy)]
 pub enum Decoded {
     Accepted(Sample, u8),
     Refused(u8),
 }
 
 // What encoding answers: the bytes written, a refusal's number, or refusal 6 with the space that it needs.
-#[derive(Drop)]
+#[derive(Clone, Copy)]
 pub enum Encoded {
     Written(usize),
     Refused(u8),

@@ -1,4 +1,6 @@
 // The wire form for Rust and C: numbers, references to numbers, slices as pointer and length.
+#![tactic(auto)]
+
 pub mod features;
 
 ghost use Rattle.std.specs.Prelude.{◌≡◌, length};
@@ -6,7 +8,7 @@ ghost use Rattle.csi_stream.specs.Codec.{decode_of, decoded_number, decoded_samp
 
 // What encoding answers: the refusal number, 0 where the sample is written, and the bytes written or needed.
 #[repr(C)]
-#[derive(Drop)]
+#[derive(Clone, Copy)]
 pub struct CsiEncoded {
     pub refusal: u64,
     pub bytes: u64,

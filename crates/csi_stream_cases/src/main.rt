@@ -1,4 +1,6 @@
 // Replays the recorded records of the wire form: a line for each, with what decoding and encoding answer. `stdout` holds what the Rust answered.
+#![tactic(auto)]
+
 ghost use Rattle.std.specs.Prelude.{◌<◌, ◌≤◌};
 
 use cases::Case;

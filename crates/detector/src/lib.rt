@@ -1,4 +1,6 @@
 // What presence and phase share (csi.rs, phase.rs): the verdict, the limits, and the state beside the ring and its sums.
+#![tactic(auto)]
+
 ghost use Rattle.std.specs.Prelude.{◌≡◌, cond};
 ghost use Rattle.detector.specs.Verdict.{verdict_tag, motion_of, either_of};
 ghost use Rattle.detector.specs.State.{new_state};
@@ -7,7 +9,7 @@ ghost use Rattle.detector.specs.Words.{is_state, words_of};
 pub mod steps;
 
 // What a detector concluded.
-#[derive(Drop)]
+#[derive(Clone, Copy)]
 pub enum Verdict {
     Warming,
     Absent,
@@ -59,7 +61,7 @@ impl Verdict {
 
 // The wander from which on there is presence, the one down to which it ends, and the shortest time, in microseconds,
 // from the last motion to absence. Permille or parts per million: the decision is the same.
-#[derive(Drop)]
+#[derive(Clone, Copy)]
 pub struct Limits {
     pub on: u32,
     pub off: u32,
@@ -69,7 +71,7 @@ pub struct Limits {
 // The state beside the ring and its sums: the columns in use, the rows since the last restart, the slot to write
 // next, the last wander, the verdict, and the time of the last motion.
 #[repr(C)]
-#[derive(Drop)]
+#[derive(Clone, Copy)]
 pub struct State {
     pub count: usize,
     pub filled: usize,
@@ -96,7 +98,7 @@ impl State {
 
 // A state as numbers, as C has it: `present` is 1 where there is presence, else 0.
 #[repr(C)]
-#[derive(Drop)]
+#[derive(Clone, Copy)]
 pub struct Words {
     pub count: usize,
     pub filled: usize,

@@ -1,5 +1,7 @@
 // The estimator of breathing and heart rate (vitals.rs, `VitalsEstimator`): frames into blocks, blocks into a window, the
 // rhythm of the window. It stands over lent memory: n rows of block means.
+#![tactic(auto)]
+
 ghost use Rattle.std.specs.Prelude.{◌≡◌};
 ghost use Rattle.estimator.specs.Calls.{new_state, reset_refusal, new_answer, reset_answer, Tried};
 
@@ -14,7 +16,7 @@ pub mod steps;
 // An estimate: ten times the rate per minute, the confidence in permille, the lag in sixteenths of a block, whether it is
 // sure enough and inside the band, and when the window ended.
 #[repr(C)]
-#[derive(Drop)]
+#[derive(Clone, Copy)]
 pub struct Vitals {
     pub bpm_x10: u16,
     pub confidence: u16,
@@ -24,7 +26,7 @@ pub struct Vitals {
 }
 
 // What a frame gives.
-#[derive(Drop)]
+#[derive(Clone, Copy)]
 pub enum Answer {
     NotDue,
     Due(Vitals),
@@ -33,7 +35,7 @@ pub enum Answer {
 // Where the estimator stands: the columns in use, the blocks since the last restart, the slot to write next, the frames in
 // the open block, the blocks since the last estimate.
 #[repr(C)]
-#[derive(Drop)]
+#[derive(Clone, Copy)]
 pub struct Progress {
     pub count: usize,
     pub filled: usize,
@@ -44,7 +46,7 @@ pub struct Progress {
 
 // The progress and the open block's totals.
 #[repr(C)]
-#[derive(Drop)]
+#[derive(Clone, Copy)]
 pub struct VitalsEstimator {
     pub progress: Progress,
     pub acc: [u32; COLUMNS],
@@ -52,14 +54,14 @@ pub struct VitalsEstimator {
 
 // Refusal 0 and a new state, or a refusal's number.
 #[repr(C)]
-#[derive(Drop)]
+#[derive(Clone, Copy)]
 pub struct Begun {
     pub refusal: u8,
     pub state: VitalsEstimator,
 }
 
 // Refusal 0, the state after a frame and what the frame gave, or a refusal's number and the state as it was.
-#[derive(Drop)]
+#[derive(Clone, Copy)]
 pub struct Pushed {
     pub refusal: u8,
     pub state: VitalsEstimator,

@@ -15,7 +15,7 @@ pub const MAX_BLOCKS: usize = 512;
 pub const MAX_DECIM: u16 = 32767;
 
 // The progress after a frame, and what the frame gave.
-#[derive(Drop)]
+#[derive(Clone, Copy)]
 pub struct Stepped {
     pub progress: Progress,
     pub answer: Answer,

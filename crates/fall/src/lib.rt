@@ -1,5 +1,7 @@
 // Falls (fall.rs): a body moves, its wander jumps above that of walking, and soon after it lies still for long. Each frame feeds the
 // wander of presence and its time. Settings and times can be any; a clock that went back counts as no time.
+#![tactic(auto)]
+
 ghost use Rattle.std.specs.Prelude.{◌≡◌, max};
 ghost use Rattle.fall.specs.Fall.{normalised_default, new_detector, quiet_from, silent, moving, in_refractory, in_idle, in_active, in_burst, in_settling, step_of, pushed};
 ghost use Rattle.fall.specs.Promises.{Lent};
@@ -8,7 +10,7 @@ use num::{saturating_add, saturating_sub};
 
 // Thresholds are permille of wander, durations microseconds.
 #[repr(C)]
-#[derive(Drop)]
+#[derive(Clone, Copy)]
 pub struct FallConfig {
     pub active_permille: u16,
     pub burst_permille: u16,
@@ -38,7 +40,7 @@ impl FallConfig {
 }
 
 // Of a fall: the burst and its peak, since when it is still, and the time of the frame that said it.
-#[derive(Drop)]
+#[derive(Clone, Copy)]
 pub struct FallEvent {
     pub burst_at: u64,
     pub peak_permille: u16,
@@ -47,20 +49,20 @@ pub struct FallEvent {
 }
 
 // What a frame says: the Rust's Option<FallEvent>.
-#[derive(Drop)]
+#[derive(Clone, Copy)]
 pub enum Suspicion {
     Nothing,
     Fall(FallEvent),
 }
 
 // Since when a moving body is quiet: the Rust's Option<Micros>.
-#[derive(Drop)]
+#[derive(Clone, Copy)]
 pub enum Quiet {
     Never,
     Since(u64),
 }
 
-#[derive(Drop)]
+#[derive(Clone, Copy)]
 pub enum Phase {
     Idle,
     Active {
@@ -81,21 +83,21 @@ pub enum Phase {
     },
 }
 
-#[derive(Drop)]
+#[derive(Clone, Copy)]
 pub struct FallDetector {
     pub config: FallConfig,
     pub phase: Phase,
 }
 
 // The state after a frame, and what the frame says.
-#[derive(Drop)]
+#[derive(Clone, Copy)]
 pub struct Stepped {
     pub phase: Phase,
     pub suspicion: Suspicion,
 }
 
 // The detector after a frame, and what the frame says.
-#[derive(Drop)]
+#[derive(Clone, Copy)]
 pub struct Pushed {
     pub detector: FallDetector,
     pub suspicion: Suspicion,

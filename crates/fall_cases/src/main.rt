@@ -1,4 +1,6 @@
 // Replays recorded frames of the fall machine, by value and lent: two lines for each. `stdout` holds what the Rust answered.
+#![tactic(auto)]
+
 ghost use Rattle.std.specs.Prelude.{◌≡◌, ◌≤◌, length};
 ghost use Rattle.fall.specs.Fall.{pushed};
 
@@ -75,7 +77,7 @@ fn push_lent(d: FallDetector, wander: u16, now: u64) -> Pushed
 }
 
 // The two machines: one goes by value, one is lent.
-#[derive(Drop)]
+#[derive(Clone, Copy)]
 struct Machines {
     value: FallDetector,
     lent: FallDetector,
@@ -124,7 +126,7 @@ fn frame(m: Machines, bytes: &[u8]) -> Machines
 }
 
 // The machines after the next case, and whether there was one.
-#[derive(Drop)]
+#[derive(Clone, Copy)]
 struct Replayed {
     machines: Machines,
     more: bool,

@@ -1,4 +1,6 @@
 // The state of the fall machine as numbers, to be kept in memory: a tag and three numbers. A number that a state does not use is 0.
+#![tactic(auto)]
+
 ghost use Rattle.std.specs.Prelude.{◌≡◌};
 ghost use Rattle.fall_words.specs.Stored.{words, phase_of, words_of, legal};
 
@@ -21,7 +23,7 @@ pub const REFRACTORY: u8 = 5;
 
 // Active since a; quietened: active since a, quiet since b; burst at a; settling: burst at a, still since b; refractory until a.
 #[repr(C)]
-#[derive(Drop)]
+#[derive(Clone, Copy)]
 pub struct Words {
     pub tag: u8,
     pub peak: u16,

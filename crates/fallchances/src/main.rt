@@ -1,5 +1,7 @@
 // Prints how often chance makes a fall with the default settings, for wander values around their thresholds one second apart: for each number of
 // frames and of events how many of all sequences make so many, as a count, as a fraction in lowest terms and as a probability.
+#![tactic(auto)]
+
 ghost use Rattle.std.specs.Prelude.{◌^◌, ◌≤◌, ◌<◌};
 
 use cases::{number, text};

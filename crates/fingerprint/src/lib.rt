@@ -1,4 +1,6 @@
 // The room's fingerprint: how far a frame's variance is from a calibrated mean (fingerprint.rs).
+#![tactic(auto)]
+
 ghost use Rattle.std.specs.Prelude.{◌≡◌};
 ghost use Rattle.fingerprint.specs.Baseline.{good, fresh, calibrate_refusal, mean_refusal, distance_refusal, calibrated_of, mean_answer, distance_answer, calibrated_number, reading_number};
 
@@ -13,21 +15,21 @@ pub const MAX_VARIANCE: u64 = 4294967295;
 
 // The sum of the calibrated variances and their number.
 #[repr(C)]
-#[derive(Drop)]
+#[derive(Clone, Copy)]
 pub struct Baseline {
     pub sum: u64,
     pub frames: u32,
 }
 
 // What calibrating answers: the next baseline, or a refusal's number.
-#[derive(Drop)]
+#[derive(Clone, Copy)]
 pub enum Calibrated {
     Baseline(Baseline),
     Refused(u8),
 }
 
 // What asking for a number answers.
-#[derive(Drop)]
+#[derive(Clone, Copy)]
 pub enum Reading {
     Value(u32),
     Refused(u8),

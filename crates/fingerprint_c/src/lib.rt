@@ -1,4 +1,6 @@
 // Calls of fingerprint from C and Rust. An answer that is an enum is its number and its values.
+#![tactic(auto)]
+
 ghost use Rattle.std.specs.Prelude.{◌≡◌};
 ghost use Rattle.fingerprint.specs.Baseline.{calibrated_of, mean_answer, distance_answer, calibrated_number, reading_number, standing, value_of};
 
@@ -6,7 +8,7 @@ use csi::Features;
 use fingerprint::{Baseline, Calibrated, Reading};
 
 #[repr(C)]
-#[derive(Drop)]
+#[derive(Clone, Copy)]
 pub struct Next {
     pub refusal: u8,
     pub baseline: Baseline,
@@ -30,7 +32,7 @@ pub extern "C" fn fingerprint_calibrate(b: Baseline, f: Features) -> Next
 }
 
 #[repr(C)]
-#[derive(Drop)]
+#[derive(Clone, Copy)]
 pub struct Number {
     pub refusal: u8,
     pub value: u32,

@@ -1,5 +1,7 @@
 // Replays recorded baselines: a line for each. `stdout` holds what the Rust answered, and for what the Rust does not refuse, document
 // 01's number.
+#![tactic(auto)]
+
 use cases::Case;
 use csi::Features;
 use fingerprint::{Baseline, Calibrated, Reading};

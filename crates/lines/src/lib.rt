@@ -1,4 +1,6 @@
 // The lines that `roomlines` prints for answers of the room (document 01, "The room unit").
+#![tactic(auto)]
+
 pub mod steps;
 mod text;
 

@@ -1,4 +1,6 @@
 // Numbers: the integer square root, casts that wrap, signs, distances, exact sums of products.
+#![tactic(auto)]
+
 ghost use Rattle.std.specs.Prelude.{◌≡◌, ◌+◌, ◌-◌, ◌<◌, ◌≤◌, ◌^◌, min, nat_abs, ◌-ℤ◌, take};
 ghost use Rattle.num.specs.Root.{root, Near};
 ghost use Rattle.num.specs.Sign.{with_sign};

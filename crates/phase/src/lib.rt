@@ -1,4 +1,6 @@
 // The phase of a channel sample (phase.rs): angles in binary radians, 65,536 to a turn.
+#![tactic(auto)]
+
 ghost use Rattle.std.specs.Prelude.{◌≡◌, ◌≤◌, ◌<◌, min, max};
 ghost use Rattle.phase.specs.Tables.{atan_octant, entries, eighth_turn};
 ghost use Rattle.phase.specs.Phases.{refused, angles_answer};
@@ -78,7 +80,7 @@ pub fn atan2_brad(y: i8, x: i8) -> i16
 
 // Angles, of which the first `count` are in use.
 #[repr(C)]
-#[derive(Drop)]
+#[derive(Clone, Copy)]
 pub struct Angles {
     pub angle: [i16; MAX_SUBCARRIERS],
     pub count: u8,
@@ -86,7 +88,7 @@ pub struct Angles {
 
 // What is left of the angles where the frame's line is taken off, one for each subcarrier in use: the first `count`. Behind them stands 0.
 #[repr(C)]
-#[derive(Drop)]
+#[derive(Clone, Copy)]
 pub struct Phases {
     pub phase: [i16; MAX_SUBCARRIERS],
     pub count: u8,
@@ -94,7 +96,7 @@ pub struct Phases {
 
 // What a call answers: refusal 0 and the phases, or a refusal's number and no phases.
 #[repr(C)]
-#[derive(Drop)]
+#[derive(Clone, Copy)]
 pub struct MeasuredPhases {
     pub refusal: u8,
     pub phases: Phases,

@@ -17,7 +17,7 @@ fn next_place(at: i64, raw: i16, prev: i16) -> i64
     at + num::wrapping_sub_i16(raw, prev) as i64
 }
 
-#[derive(Drop)]
+#[derive(Clone, Copy)]
 pub(crate) struct LineSums {
     pub su: i64,
     pub sku: i64,

@@ -1,4 +1,6 @@
 // The calls of `phase` from C and Rust. A slice is two parameters there, a pointer and a length.
+#![tactic(auto)]
+
 ghost use Rattle.std.specs.Prelude.{◌≡◌};
 ghost use Rattle.phase.specs.Angle.{angle_of};
 ghost use Rattle.phase.specs.Phases.{phases_answer, angles_answer};

@@ -1,4 +1,6 @@
 // Replays the recorded angles and phases: a line for each case. `stdout` holds what the Rust answered.
+#![tactic(auto)]
+
 ghost use Rattle.std.specs.Prelude.{◌<◌};
 
 use cases::Case;

@@ -1,5 +1,7 @@
 // Presence from the circular variance of the phase over the last W frames (phase.rs, `PhaseDetector`). The rows are lent,
 // the state and the sums go in and come back by value. Every call refuses what does not fit.
+#![tactic(auto)]
+
 ghost use Rattle.std.specs.Prelude.{◌≡◌};
 ghost use Rattle.window.specs.Window.{columns};
 ghost use Rattle.detector.specs.Calls.{Begins, Resets, Calls};
@@ -12,7 +14,7 @@ pub mod steps;
 
 // Thresholds in parts per million, and the shortest time, in microseconds, from the last motion to absence.
 #[repr(C)]
-#[derive(Drop)]
+#[derive(Clone, Copy)]
 pub struct Config {
     pub on_ppm: u32,
     pub off_ppm: u32,
@@ -21,14 +23,14 @@ pub struct Config {
 
 // The sums of the cosines and of the sines of the columns' angles, over all rows of the ring.
 #[repr(C)]
-#[derive(Drop)]
+#[derive(Clone, Copy)]
 pub struct Sums {
     pub cos: [i32; COLUMNS],
     pub sin: [i32; COLUMNS],
 }
 
 // What `new` and `reset` answer: refusal 0 is none.
-#[derive(Drop)]
+#[derive(Clone, Copy)]
 pub struct Outcome {
     pub refusal: u8,
     pub state: State,
@@ -36,7 +38,7 @@ pub struct Outcome {
 }
 
 // What `push` answers; the verdict is Warming where it refuses.
-#[derive(Drop)]
+#[derive(Clone, Copy)]
 pub struct Answer {
     pub refusal: u8,
     pub state: State,

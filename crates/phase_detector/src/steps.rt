@@ -223,7 +223,7 @@ fn settled_state(
     detector::steps::decide(limits, time, m, s)
 }
 
-#[derive(Drop)]
+#[derive(Clone, Copy)]
 pub struct Pushed {
     pub state: State,
     pub sums: Sums,

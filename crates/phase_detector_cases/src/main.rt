@@ -1,5 +1,7 @@
 // Replays recorded runs of the phase detector through its public calls: a line for each run. `stdout` holds what the Rust
 // answered, and the refusals of document 01.
+#![tactic(auto)]
+
 ghost use Rattle.std.specs.Prelude.{◌≡◌, ◌<◌, ◌≤◌, min, length};
 
 use cases::Case;
@@ -65,7 +67,7 @@ fn entries(part: &[u8]) -> [i16; COLUMNS] {
 }
 
 // What a detector holds between calls.
-#[derive(Drop)]
+#[derive(Clone, Copy)]
 struct Held {
     state: State,
     sums: Sums,

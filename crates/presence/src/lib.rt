@@ -1,5 +1,7 @@
 // Presence from the wander of the amplitudes over the last W frames (csi.rs, `PresenceDetector`). The rows are lent, the
 // state and the sums go in and come back by value. Every call refuses what does not fit.
+#![tactic(auto)]
+
 ghost use Rattle.std.specs.Prelude.{◌≡◌};
 ghost use Rattle.window.specs.Window.{columns};
 ghost use Rattle.detector.specs.Calls.{Begins, Resets, Calls};
@@ -12,7 +14,7 @@ pub mod steps;
 
 // Thresholds in permille, and the shortest time, in microseconds, from the last motion to absence.
 #[repr(C)]
-#[derive(Drop)]
+#[derive(Clone, Copy)]
 pub struct Config {
     pub on_permille: u16,
     pub off_permille: u16,
@@ -34,14 +36,14 @@ impl Config {
 
 // The sums and the square sums of the columns, over all rows of the ring.
 #[repr(C)]
-#[derive(Drop)]
+#[derive(Clone, Copy)]
 pub struct Sums {
     pub sum: [u32; COLUMNS],
     pub sumsq: [u64; COLUMNS],
 }
 
 // What `new` and `reset` answer: refusal 0 is none.
-#[derive(Drop)]
+#[derive(Clone, Copy)]
 pub struct Outcome {
     pub refusal: u8,
     pub state: State,
@@ -49,7 +51,7 @@ pub struct Outcome {
 }
 
 // What `push` answers; the verdict is Warming where it refuses.
-#[derive(Drop)]
+#[derive(Clone, Copy)]
 pub struct Answer {
     pub refusal: u8,
     pub state: State,

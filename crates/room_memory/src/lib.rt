@@ -1,4 +1,6 @@
 // The room unit's memory: what stands at which byte (docs/LAYOUT.md).
+#![tactic(auto)]
+
 use detector::State;
 use estimator::Progress;
 use fall_words::Words;
@@ -53,7 +55,7 @@ pub const HEADER_LEN: usize = HEART_ACC_AT + 4 * COLUMNS;
 pub(crate) const PRESENT_AT: usize = 9;
 
 // What the unit holds beside its settings and its rows. The fall machine is in words.
-#[derive(Drop)]
+#[derive(Clone, Copy)]
 pub struct RoomState {
     pub tag: u8,
     pub presence: State,

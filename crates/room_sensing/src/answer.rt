@@ -11,7 +11,7 @@ use num::steps::{u16_bytes, u32_bytes, u64_bytes};
 pub const ANSWER_LEN: usize = 24;
 
 // A rate: none is due, it is not accepted, or ten times the rate a minute.
-#[derive(Drop)]
+#[derive(Clone, Copy)]
 pub enum Rate {
     NotDue,
     NotAccepted,
@@ -19,7 +19,7 @@ pub enum Rate {
 }
 
 // What a watched sample gives.
-#[derive(Drop)]
+#[derive(Clone, Copy)]
 pub struct Watched {
     pub verdict: Verdict,
     pub permille: u16,
@@ -30,7 +30,7 @@ pub struct Watched {
     pub distance: u16,
 }
 
-#[derive(Drop)]
+#[derive(Clone, Copy)]
 pub enum Answer {
     Refused(u8),
     Watch(Watched),

@@ -8,7 +8,7 @@ use window::COLUMNS;
 
 // Refusal 0 and the length in bytes, or a refusal's number and 0.
 #[repr(C)]
-#[derive(Drop)]
+#[derive(Clone, Copy)]
 pub struct MemoryLen {
     pub refusal: u8,
     pub len: usize,

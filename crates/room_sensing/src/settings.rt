@@ -21,7 +21,7 @@ const HEART_AT: usize = 52;
 const FALL_AT: usize = 72;
 
 // The frames of a window, for presence and phase; the block means, for breathing and heart; and each detector's own.
-#[derive(Drop)]
+#[derive(Clone, Copy)]
 pub struct Settings {
     pub w: u16,
     pub n: u16,

@@ -18,14 +18,14 @@ use phase::Phases;
 use room_sensing::settings::Settings;
 use window::COLUMNS;
 
-#[derive(Drop)]
+#[derive(Clone, Copy)]
 pub struct Windows {
     pub presence: presence::steps::Pushed,
     pub phase: phase_detector::steps::Pushed,
 }
 
 // Beside each step, the totals of the open block.
-#[derive(Drop)]
+#[derive(Clone, Copy)]
 pub struct Rhythms {
     pub breathing: Stepped,
     pub breathing_acc: [u32; COLUMNS],

@@ -9,7 +9,7 @@ use fall::{FallConfig, FallDetector, Suspicion};
 use fall_words::Words;
 
 // The machine's words after a sample, and whether it tells a fall.
-#[derive(Drop)]
+#[derive(Clone, Copy)]
 pub struct Fallen {
     pub words: Words,
     pub fall: bool,

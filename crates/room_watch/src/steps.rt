@@ -27,7 +27,7 @@ pub fn variance_in(body: &[u8]) -> u32
 }
 
 // The state after a watched sample, and what was found.
-#[derive(Drop)]
+#[derive(Clone, Copy)]
 pub struct Fed {
     pub state: RoomState,
     pub found: Watched,

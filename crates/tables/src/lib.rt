@@ -1,4 +1,6 @@
 // The arctangent and sine tables at 256 and at 1,024 steps, made in whole numbers (docs/TABLES.md).
+#![tactic(auto)]
+
 ghost use Rattle.std.specs.Prelude.{◌≡◌, ◌+◌, ◌*◌, ◌≤◌, ◌<◌, length, get_or};
 ghost use Rattle.num.specs.Nearest.{nearest};
 ghost use Rattle.tables.specs.Tables.{radian, fractions, deeper, euler, atan_entry, sine_terms, less, alternating, sine_entry, entry_of, table_of, atan_table, sine_table};
@@ -111,7 +113,7 @@ fn sine_entry(n: u64, i: u64) -> u16
     nearest(alternating(i * i, n * n) * i, n * ONE)
 }
 
-#[derive(Drop)]
+#[derive(Clone, Copy)]
 enum Table {
     Arctangents,
     Sines,

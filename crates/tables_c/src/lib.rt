@@ -1,4 +1,6 @@
 // The calls of `tables` from C and Rust.
+#![tactic(auto)]
+
 ghost use Rattle.std.specs.Prelude.{◌≡◌};
 ghost use Rattle.tables.specs.Tables.{atan_table, sine_table};
 

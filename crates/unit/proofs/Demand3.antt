@@ -43,10 +43,10 @@ module _ (S : Sensing) where
     plain-room = as-the-plain-room S laws M new-memory Called keeps
 
     -- what a life gives that passes a place, from what the rest of its run comes to there
-    goes_on : (P : Place S) (q : List ℕ) (ds : List (Call S)) (rs : List (Return S)) (there : Walked S (Room S)) → Passing S Called P q ds rs
+    run-goes_on : (P : Place S) (q : List ℕ) (ds : List (Call S)) (rs : List (Return S)) (there : Walked S (Room S)) → Passing S Called P q ds rs
         → run_of S (plain S) (room_at S P) q (space_left S P) ≡ there
         → rs ≡ begun 0 ∷ earlier S P ++ goes_on S P there.answers there.need there.used ∷ returns S (length P.memory) there.state ds
-    goes_on P q ds rs there life is =
+    run-goes_on P q ds rs there life is =
         plain-room P.memory P.given (P.calls ++ run (P.behind ++ q) P.space ∷ ds) rs life
         ∙ ap {A = List (Return S)} (λ l. begun 0 ∷ l)
         (returns-append (length P.memory) (new_room S (S.settings P.given)) P.calls (run (P.behind ++ q) P.space ∷ ds)
@@ -62,8 +62,8 @@ module _ (S : Sensing) where
           need = there.need;
           used = there.used;
           rest = returns S (length P.memory) there.state ds;
-          one = goes_on P q ds rs there one refl;
-          other = goes_on Q q ds qs there other (sym (ap₂ (λ (x : Room S) (k : ℕ). run_of S (plain S) x q k) same equal))
+          one = run-goes_on P q ds rs there one refl;
+          other = run-goes_on Q q ds qs there other (sym (ap₂ (λ (x : Room S) (k : ℕ). run_of S (plain S) x q k) same equal))
               ∙ ap (λ (k : ℕ). begun 0 ∷ earlier S Q ++ goes_on S Q there.answers there.need there.used ∷ returns S k there.state ds) long;
         }
       where
@@ -89,7 +89,7 @@ module _ (S : Sensing) where
           need = there.need;
           used = there.used;
           rest = returns S (length P.memory) there.state ds;
-          with-a-past = goes_on P q ds rs _ life (from-boundary S laws P q b);
+          with-a-past = run-goes_on P q ds rs _ life (from-boundary S laws P q b);
           just-begun = just-begun n h q space ds qs anew there
               (ap₂ (λ (σ : S.Settings) (k : ℕ). run_of S (plain S) (new_room S σ) q k) settings equal)
               ∙ ap (λ (k : ℕ). begun 0 ∷ ran (returned S there) (space_after S there space) ∷ returns S k there.state ds) long;
@@ -200,7 +200,7 @@ module _ (S : Sensing) where
           need = then.need;
           used = then.used;
           rest = returns S (length P.memory) then.state ds;
-          gives = goes_on P q ds rs (before S (said_at 0 (room_answers S (room_at S P) r)) then) life
+          gives = run-goes_on P q ds rs (before S (said_at 0 (room_answers S (room_at S P) r)) then) life
               (ap (λ (l : List Record). walk S (plain S) (room_at S P) 0 (space_left S P) l torn) e
               ∙ walk-cons S (plain S) (room_at S P) 0 (space_left S P) r behind-it torn fits);
           warming = lines-warm W warms (room_at S P) (reached-at S laws P) r;

@@ -4,7 +4,7 @@ ghost use Rattle.vitals.specs.Band.{usable, lags_of, lags_answer};
 
 // A frequency band in millihertz.
 #[repr(C)]
-#[derive(Drop)]
+#[derive(Clone, Copy)]
 pub struct Band {
     pub lo_mhz: u32,
     pub hi_mhz: u32,
@@ -12,7 +12,7 @@ pub struct Band {
 
 // A range of lags, both ends in it.
 #[repr(C)]
-#[derive(Drop)]
+#[derive(Clone, Copy)]
 pub struct Lags {
     pub lo: usize,
     pub hi: usize,
@@ -20,7 +20,7 @@ pub struct Lags {
 
 // Refusal 0 and the lags, or 1 and none.
 #[repr(C)]
-#[derive(Drop)]
+#[derive(Clone, Copy)]
 pub struct Covered {
     pub refusal: u8,
     pub lags: Lags,

@@ -7,7 +7,7 @@ use crate::band::Band;
 // Frames averaged into a block mean, the rate of the means, the band, the block means between estimates, the confidence
 // from which on an estimate is accepted, and the samples of the moving average to take off, or 0.
 #[repr(C)]
-#[derive(Drop)]
+#[derive(Clone, Copy)]
 pub struct VitalsConfig {
     pub decim: u16,
     pub rate_hz: u32,

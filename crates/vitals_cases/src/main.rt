@@ -1,4 +1,6 @@
 // Replays recorded lags and frames: a line for each case. `stdout` holds what the Rust answered.
+#![tactic(auto)]
+
 ghost use Rattle.std.specs.Prelude.{◌*◌, ◌+◌, ◌≤◌, ◌<◌, length};
 
 use cases::{Case, number, text};
@@ -18,7 +20,7 @@ const MOST_BLOCKS: usize = 128;
 const ROOM: usize = 16384;
 
 // An estimator: its blocks, settings and state.
-#[derive(Drop)]
+#[derive(Clone, Copy)]
 struct Run {
     n: usize,
     config: VitalsConfig,
@@ -200,7 +202,7 @@ fn line(rows: &mut [u8], run: Run, bytes: &[u8]) -> Run
 }
 
 // The estimator after the next case, and whether there was one.
-#[derive(Drop)]
+#[derive(Clone, Copy)]
 struct Replayed {
     run: Run,
     more: bool,

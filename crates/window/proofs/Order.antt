@@ -18,14 +18,14 @@ use Rattle.window.proofs.Mean.{sum_to-same}
 
 -- ---- rows as often as they occur, and permutations of them
 
-same_row : (xs ys : List ℕ) → same_row xs ys ≡ true → xs ≡ ys
+same_row-true : (xs ys : List ℕ) → same_row xs ys ≡ true → xs ≡ ys
 unfolding same_row
-same_row [] [] h = refl
-same_row [] (y ∷ ys) h = absurd (never h)
-same_row (x ∷ xs) [] h = absurd (never h)
-same_row (x ∷ xs) (y ∷ ys) h =
+same_row-true [] [] h = refl
+same_row-true [] (y ∷ ys) h = absurd (never h)
+same_row-true (x ∷ xs) [] h = absurd (never h)
+same_row-true (x ∷ xs) (y ∷ ys) h =
     let b = both (eqb x y) (same_row xs ys) h in
-    cc (eqb-true x y b.0, same_row xs ys b.1)
+    cc (eqb-true x y b.0, same_row-true xs ys b.1)
 
 row-itself : (xs : List ℕ) → same_row xs xs ≡ true
 unfolding same_row
@@ -61,7 +61,7 @@ found row [] h = absurd (omega arith)
 found row (x ∷ rows) h = go (same_row row x) refl h (λ k. found row rows k)
   where
     go : (b : Bool) → same_row row x ≡ b → 1 ≤ cond b 1 0 + occurrences row rows → (1 ≤ occurrences row rows → Found row rows) → Found row (x ∷ rows)
-    go true e h further = record { before = []; behind = rows; stands = ap (λ (y : List ℕ). y ∷ rows) (sym (same_row row x e)) }
+    go true e h further = record { before = []; behind = rows; stands = ap (λ (y : List ℕ). y ∷ rows) (sym (same_row-true row x e)) }
     go false e h further =
         let f = further (omega arith) in
         record { before = x ∷ f.before; behind = f.behind; stands = ap (λ (l : List (List ℕ)). x ∷ l) f.stands }

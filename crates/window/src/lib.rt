@@ -1,4 +1,6 @@
 // The sliding window: a ring of rows in lent memory. What is summed over its columns is each detector's own.
+#![tactic(auto)]
+
 ghost use Rattle.std.specs.Prelude.{◌≡◌, length, replicate};
 
 pub mod steps;

@@ -99,7 +99,7 @@ fn lagged(x: &[i16], n: usize, lag: usize, energy: u64) -> i64
 }
 
 // An energy that sums are divided by, and what to multiply with instead.
-#[derive(Drop)]
+#[derive(Clone, Copy)]
 struct Energy {
     sum: u64,
     factor: u64,

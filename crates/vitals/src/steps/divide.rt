@@ -3,7 +3,7 @@ ghost use Rattle.std.specs.Prelude.{◌≡◌, ◌*◌, ◌/◌, ◌≤◌};
 ghost use Rattle.vitals.specs.Steps.{divisor_of, Exact};
 
 // What to divide by, and what to multiply with instead.
-#[derive(Drop)]
+#[derive(Clone, Copy)]
 pub struct Divisor {
     pub by: u32,
     pub factor: u64,

@@ -78,7 +78,7 @@ pub fn centre(x: &[i16], out: &mut [i16])
 }
 
 // The samples from `lo` to before `hi`, and their sum.
-#[derive(Drop)]
+#[derive(Clone, Copy)]
 struct Window {
     sum: i32,
     lo: usize,

@@ -4,23 +4,17 @@ use native.Mathlib.Nat.{mul-le-mul}
 use native.Mathlib.Omega.{arith}
 use Rattle.num.proofs.Ratio.{recip-below, recip-div}
 use Rattle.window.specs.Window.{max_rows, most_per_row}
-use Rattle.window.proofs.steps.per_row.Statement.{statement}
-use Rattle.window.proofs.steps.per_row.Tie as tie
+use Rattle.window.proofs.steps.per_row.Goals as goal
 
 small-enough : (w : ℕ) → w ≤ max_rows → (most_per_row + 1) * w * w < 35184372088832
 small-enough w h =
     let one : (most_per_row + 1) * w * w ≤ (most_per_row + 1) * max_rows * max_rows = mul-le-mul (mul-le-mul {n₁ = most_per_row + 1} {n₂ = most_per_row + 1} (omega arith) h) h in
     omega arith
 
-mul-result : tie.Need-overflow-mul-result
-mul-result c =
-    let a = c.args in
-    rw c.requires.2 (omega (arith, recip-below 35184372088832 a.w most_per_row a.x c.requires.0 (small-enough a.w c.requires.1) c.requires.3))
+pub overflow_mul-result : goal.overflow_mul-result
+overflow_mul-result c =
+    rw c.requires.2 (omega (arith, recip-below 35184372088832 c.args.w most_per_row c.args.x c.requires.0 (small-enough c.args.w c.requires.1) c.requires.3))
 
-returns : tie.Need-returns
+pub returns : goal.returns
 returns c =
-    let a = c.args in
-    rw c.requires.2 (recip-div 35184372088832 a.w most_per_row a.x c.requires.0 (small-enough a.w c.requires.1) c.requires.3)
-
-pub per-row-spec : {M : Type 1} → statement M
-per-row-spec = tie.close (tie.spec mul-result returns)
+    rw c.requires.2 (recip-div 35184372088832 c.args.w most_per_row c.args.x c.requires.0 (small-enough c.args.w c.requires.1) c.requires.3)
