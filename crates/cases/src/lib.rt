@@ -1,7 +1,8 @@
 // What the programs that replay recorded cases share: a case read from standard input, and the words and numbers of a line.
 #![tactic(auto)]
 
-use libc::{STDIN_FILENO, STDOUT_FILENO};
+use std::io;
+use std::io::{ErrorKind, Input, Read};
 
 // The bytes of one case that `next` read to the front of its buffer, or the end of the cases.
 #[derive(Clone, Copy)]
@@ -10,53 +11,62 @@ pub enum Case {
     End,
 }
 
+// Fills `buf` from standard input; false if the input ends before.
+fn fill(rt: &impl Input, buf: &mut [u8]) -> io::Result<bool> {
+    let mut input = rt.reader();
+    match input.read_exact(buf) {
+        Ok(()) => Ok(true),
+        Err(e) => {
+            if e.kind() == ErrorKind::UnexpectedEof {
+                return Ok(false);
+            }
+            Err(e)
+        }
+    }
+}
+
 // A case is its length in two bytes, low byte first, and its bytes. One that is longer than `buf` ends the cases.
-pub fn next(buf: &mut [u8]) -> Case {
+pub fn next(rt: &impl Input, buf: &mut [u8]) -> io::Result<Case> {
     let mut head = [0u8; 2];
-    if io::read_full(STDIN_FILENO, &mut head) < 2 {
-        return Case::End;
+    if !fill(rt, &mut head)? {
+        return Ok(Case::End);
     }
     let n = num::steps::u16_at(&head, 0) as usize;
     if buf.len() < n {
-        return Case::End;
+        return Ok(Case::End);
     }
-    if io::read_full(STDIN_FILENO, &mut buf[0..n]) < n {
-        return Case::End;
+    if !fill(rt, &mut buf[0..n])? {
+        return Ok(Case::End);
     }
-    Case::Bytes(n)
+    Ok(Case::Bytes(n))
 }
 
-pub fn text(s: &[u8]) {
-    io::write_all(STDOUT_FILENO, s);
+pub fn text(rt: &impl Print, s: &[u8]) -> io::Result<()> {
+    rt.write_all(s)
 }
 
 // A number, with a space before it.
-pub fn number(n: u64) {
-    text(b" ");
-    io::print_decimal(STDOUT_FILENO, n);
+pub fn number(rt: &impl Print, n: u64) -> io::Result<()> {
+    print!(rt; " {n}")
 }
 
 // A signed number, with a space before it.
-pub fn signed(x: i32) {
-    text(b" ");
-    if x < 0 {
-        text(b"-");
-    }
-    io::print_decimal(STDOUT_FILENO, num::unsigned_abs_i32(x));
+pub fn signed(rt: &impl Print, x: i32) -> io::Result<()> {
+    print!(rt; " {x}")
 }
 
-pub fn signed_byte(x: i8) {
-    signed(x as i32);
+pub fn signed_byte(rt: &impl Print, x: i8) -> io::Result<()> {
+    signed(rt, x as i32)
 }
 
-pub fn end_line() {
-    text(b"\n");
+pub fn end_line(rt: &impl Print) -> io::Result<()> {
+    text(rt, b"\n")
 }
 
 // A line of a list: its name, a place and the number there.
-pub fn entry(name: &[u8], place: u64, n: u64) {
-    text(name);
-    number(place);
-    number(n);
-    end_line();
+pub fn entry(rt: &impl Print, name: &[u8], place: u64, n: u64) -> io::Result<()> {
+    text(rt, name)?;
+    number(rt, place)?;
+    number(rt, n)?;
+    end_line(rt)
 }

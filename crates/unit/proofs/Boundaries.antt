@@ -16,7 +16,7 @@ use Rattle.unit.specs.Room.{Room, new_room, in_force, same_tag, other_tag, refus
 use Rattle.unit.specs.Places.{Place, past, room_at, space_left, room_before, Boundary, behind-a-reset, at-another-tag, to_list, answers_before, in_place_of, space_at_boundary, EmptyBehindAReset, OneTagSinceABoundary, CanBeginAnew, without_looks, LooksLeaveNoTrace}
 use Rattle.num.proofs.Logic.{never}
 use Rattle.unit.proofs.Cutting.{whole_of, cut-append, cut-sizes}
-use Rattle.unit.proofs.Walking.{onward, further, go_on, behind, short_none, none-short, walk-cons, walk-append, walk-used, walk-later, walk-state, walk-last}
+use Rattle.unit.proofs.Walking.{onward, further, go_on, short_none, none-short, walk-cons, walk-append, walk-used, walk-later, walk-state, walk-last}
 use Rattle.unit.proofs.Reached.{Reached, reached-new, reached-run, reached_then, begins-with}
 
 module _ (S : Sensing) where

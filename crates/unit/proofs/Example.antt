@@ -9,7 +9,6 @@ use lib.ListN.{length, get_or, replicate}
 use lib.Dec.{ltb, leb, eqb}
 use borrow.Author.Tests.{eqb-true, ltb-true, ltb-false, lt-ltb, le-ltb}
 use Rattle.unit.specs.Records.{Mark, watched, calibrated, Event, took, noted, kinds_for, Cut, cut, cut_f}
-use Rattle.unit.specs.Answers.{refused}
 use Rattle.unit.specs.Sensing.{Sensing, Now, after, counted, how_many, detect, Laws, WarmUp, Warms}
 use Rattle.unit.specs.Walk.{Walked, walk, run_of, returned, space_after}
 use Rattle.unit.specs.Unit.{View, unit_reply, unit_asked, fed_note}

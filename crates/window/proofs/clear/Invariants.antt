@@ -1,11 +1,8 @@
 -- `window::clear` meets its contract. The loop's invariant: the first i bytes are zero and the others as they were. Assumes nothing.
-use mathlib.Core.Path.{◌≡◌, refl, ap, ◌∙◌}
-use mathlib.Core.List.{List, [], ◌++◌, append-nil}
-use Prim.Native.Nat.{ℕ, ◌-◌, ◌≤◌}
-use native.Mathlib.Omega.{arith}
-use borrow.Author.Rules.{rules}
-use borrow.Author.Fill.{fill_none, fill_more}
-use lib.ListN.{length, drop, set, replicate, length-set, drop_of_length-le}
+use mathlib.Core.Path.{◌≡◌}
+use mathlib.Core.List.{◌++◌}
+use Prim.Native.Nat.{◌-◌, ◌≤◌}
+use lib.ListN.{length, drop, replicate}
 use Rattle.window.proofs.clear.Given as goal
 
 abbrev pub invariant-loop-i : goal.invariant-loop-i

@@ -1,7 +1,6 @@
 -- `window::steps::row_reciprocal` meets its contract. Assumes nothing.
 use native.Mathlib.Nat.{div-le_self}
 use native.Mathlib.Omega.{arith}
-use borrow.Author.Rules.{rules}
 use Rattle.window.proofs.steps.row_reciprocal.Goals as goal
 
 pub overflow_add-result : goal.overflow_add-result

@@ -1,11 +1,7 @@
 -- `window::steps::write_row` meets its contract: the loop of `Write.Stored`. Assumes nothing.
-use mathlib.Core.Path.{◌≡◌, sym, ◌∙◌}
 use Prim.Native.Nat.{◌-◌}
-use lib.ListN.{length}
-use native.Mathlib.Omega.{arith}
-use borrow.Author.Rules.{rules}
 use Rattle.window.specs.Window.{columns}
-use Rattle.window.proofs.Write.{Stored, store-start, store-there, store-turn, store-end}
+use Rattle.window.proofs.Write.{Stored}
 use Rattle.window.proofs.steps.write_row.Given as goal
 
 abbrev pub invariant-loop-sc : goal.invariant-loop-sc
