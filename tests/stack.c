@@ -1,5 +1,5 @@
-/* How deep the room's calls go into the stack, and the count of chance falls: what stands below the
- * caller is filled, and counted after the call. 32 KB are enough for the room's, 128 KB for the count. */
+/* How deep the room's calls go into the stack: what stands below the caller is filled, and counted after
+ * the call. 32 KB are enough for any. And the count of chance falls, for which 128 KB are enough. */
 #define _POSIX_C_SOURCE 200112L
 #include <pthread.h>
 #include <stdio.h>
@@ -21,31 +21,31 @@ struct room {
     uint8_t *answers;
 };
 
-static void run(const void *what)
+static void run(const struct room *r)
 {
-    const struct room *r = (const struct room *)what;
     room_run(r->memory, r->len, r->records, r->count * VOLKJARP_RECORD_LEN, r->answers,
              r->count * VOLKJARP_ANSWER_LEN);
 }
 
-static void begin(const void *what)
+static void begin(const struct room *r)
 {
-    const struct room *r = (const struct room *)what;
     room_begin(r->memory, VOLKJARP_SETTINGS_LEN, r->memory + r->len, r->len);
 }
 
-static void chance(const void *what)
+/* Takes no room. */
+static void chance(const struct room *none)
 {
     static const uint16_t choices[] = {30, 31, 32, 232};
-    chance_count(*(const struct volkjarp_fall_config *)what, choices, VOLKJARP_CHANCE_CHOICES, 1000000,
+    (void)none;
+    chance_count(volkjarp_presets(50).fall, choices, VOLKJARP_CHANCE_CHOICES, 1000000,
                  VOLKJARP_CHANCE_FRAMES);
 }
 
 static uint8_t stack[STACK] __attribute__((aligned(4096)));
 
 struct called {
-    void (*call)(const void *);
-    const void *what;
+    void (*call)(const struct room *);
+    const struct room *room;
     size_t depth;
 };
 
@@ -56,20 +56,20 @@ static void *fill_and_call(void *what)
     const size_t above = (size_t)((const uint8_t *)&here - stack);
     size_t untouched = 0;
     memset(stack, FILL, above - NEAR);
-    c->call(c->what);
+    c->call(c->room);
     while (untouched < above - NEAR && stack[untouched] == FILL)
         untouched++;
     c->depth = above - untouched;
     return NULL;
 }
 
-static size_t depth(void (*call)(const void *), const void *what)
+static size_t depth(void (*call)(const struct room *), const struct room *r)
 {
     struct called c;
     pthread_attr_t how;
     pthread_t thread;
     c.call = call;
-    c.what = what;
+    c.room = r;
     if (pthread_attr_init(&how) != 0 || pthread_attr_setstack(&how, stack, sizeof stack) != 0 ||
         pthread_create(&thread, &how, fill_and_call, &c) != 0 || pthread_join(thread, NULL) != 0)
         exit(2);
@@ -127,8 +127,7 @@ static int measured(uint16_t window, uint16_t blocks, size_t count)
 
 static int measured_chance(void)
 {
-    const struct volkjarp_fall_config config = volkjarp_presets(50).fall;
-    const size_t counted = depth(chance, &config);
+    const size_t counted = depth(chance, NULL);
     printf("stack of chance_count: %lu bytes\n", (unsigned long)counted);
     return counted < MOST_OF_CHANCE;
 }

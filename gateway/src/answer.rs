@@ -157,8 +157,7 @@ impl Answer {
 }
 
 fn refused(bytes: &[u8; ANSWER_LEN]) -> Option<Answer> {
-    // no record is refused by 13
-    let number = Refusal::from_number(bytes[1]).filter(|number| *number != Refusal::Chance)?;
+    let number = Refusal::from_number(bytes[1])?;
     let at = u64::from_le_bytes(bytes[2..10].try_into().ok()?);
     Some(Answer::Refused { number, at })
 }
@@ -230,7 +229,6 @@ mod tests {
         assert_eq!(answer(&[0, 8, 1, 2, 3, 4, 5, 6, 7, 8]), Some(due));
         assert_eq!(answer(&[0, 0]), None);
         assert_eq!(answer(&[0, 10]), None);
-        assert_eq!(answer(&[0, 13]), None);
     }
 
     #[test]

@@ -1,8 +1,10 @@
 //! How often chance makes a fall: of all sequences of wander values out of a few, how many give how
 //! many suspected falls.
 
+use std::error::Error;
+use std::fmt;
+
 use crate::ffi;
-use crate::refusal::Refusal;
 use crate::settings::{Falls, Micros};
 
 /// The most choices.
@@ -16,6 +18,27 @@ pub const SPACING: Micros = Micros::from_secs(1000);
 
 /// For 0 events and for each number of them up to 24.
 pub const COUNTS: usize = FRAMES + 1;
+
+/// Why nothing is counted: the number of choices, the length or the spacing is out of its range. A
+/// room never says this, so it is no [`Refusal`](crate::Refusal).
+#[derive(Debug, Clone, Copy, PartialEq, Eq, Hash)]
+pub struct OutOfRange;
+
+impl OutOfRange {
+    /// Its number, 13.
+    #[must_use]
+    pub const fn number(self) -> u8 {
+        13
+    }
+}
+
+impl fmt::Display for OutOfRange {
+    fn fmt(&self, f: &mut fmt::Formatter<'_>) -> fmt::Result {
+        f.write_str("the number of choices, the length or the spacing is out of its range")
+    }
+}
+
+impl Error for OutOfRange {}
 
 /// How many sequences give how many events.
 #[derive(Debug, Clone, PartialEq, Eq)]
@@ -68,19 +91,19 @@ fn common_divisor(a: u64, b: u64) -> u64 {
 ///
 /// # Errors
 ///
-/// [`Refusal::Chance`], if there is no choice or more than [`CHOICES`], if `spacing` is above
+/// [`OutOfRange`], if there is no choice or more than [`CHOICES`], if `spacing` is above
 /// [`SPACING`], or `frames` above [`FRAMES`].
 pub fn count(
     falls: &Falls,
     choices: &[u16],
     spacing: Micros,
     frames: usize,
-) -> Result<Chances, Refusal> {
+) -> Result<Chances, OutOfRange> {
     let counted = ffi::chances(falls, choices, spacing.0, frames as u64);
-    match Refusal::from_number(counted.refusal) {
-        None => Ok(Chances {
-            counts: counted.counts,
-        }),
-        Some(refusal) => Err(refusal),
+    if counted.refusal != 0 {
+        return Err(OutOfRange);
     }
+    Ok(Chances {
+        counts: counted.counts,
+    })
 }

@@ -107,7 +107,7 @@
 //! assert_eq!(of(13)?.fraction(0), (1, 1)); // too short for a fall
 //! assert_eq!(of(14)?.counts()[1], 4096); // of 4^14
 //! assert_eq!(of(14)?.fraction(1), (1, 65_536));
-//! # Ok::<(), volkjarp::Refusal>(())
+//! # Ok::<(), chance::OutOfRange>(())
 //! ```
 //!
 //! # Building

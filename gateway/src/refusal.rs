@@ -8,7 +8,7 @@ use std::fmt;
 #[non_exhaustive]
 pub enum Refusal {
     /// 1: a setting is out of its range.
-    Settings = 1,
+    Settings,
     /// 2: the memory is not one that the unit left.
     Memory,
     /// 3: the bytes of a sample have not the form of one.
@@ -25,13 +25,10 @@ pub enum Refusal {
     Full,
     /// 9: a record is of an unknown kind or cut short.
     Record,
-    /// 13: sequences whose number of choices, length or spacing is out of its range. The room never
-    /// says this, [`chance::count`](crate::chance::count) alone does.
-    Chance = 13,
 }
 
 impl Refusal {
-    const ALL: [Refusal; 10] = [
+    const ALL: [Refusal; 9] = [
         Refusal::Settings,
         Refusal::Memory,
         Refusal::Form,
@@ -41,21 +38,19 @@ impl Refusal {
         Refusal::Count,
         Refusal::Full,
         Refusal::Record,
-        Refusal::Chance,
     ];
 
-    /// Its number: 1 to 9, or 13.
+    /// Its number, 1 to 9.
     #[must_use]
     pub const fn number(self) -> u8 {
-        self as u8
+        self as u8 + 1
     }
 
     /// The refusal with this number.
     #[must_use]
     pub fn from_number(number: u8) -> Option<Refusal> {
-        Refusal::ALL
-            .into_iter()
-            .find(|refusal| refusal.number() == number)
+        let index = usize::from(number).checked_sub(1)?;
+        Refusal::ALL.get(index).copied()
     }
 }
 
@@ -71,9 +66,6 @@ impl fmt::Display for Refusal {
             Refusal::Count => "more than 64 entries",
             Refusal::Full => "the baseline takes no more frames",
             Refusal::Record => "the record's kind is unknown or the record is cut short",
-            Refusal::Chance => {
-                "the number of choices, the length or the spacing is out of its range"
-            }
         })
     }
 }
@@ -88,11 +80,10 @@ mod tests {
     fn numbers_come_back() {
         for number in 0..=u8::MAX {
             let refusal = Refusal::from_number(number);
-            assert_eq!(refusal.is_some(), matches!(number, 1..=9 | 13));
+            assert_eq!(refusal.is_some(), (1..=9).contains(&number));
             assert!(refusal.is_none_or(|refusal| refusal.number() == number));
         }
         assert_eq!(Refusal::Full.number(), 8);
         assert_eq!(Refusal::Record.number(), 9);
-        assert_eq!(Refusal::Chance.number(), 13);
     }
 }

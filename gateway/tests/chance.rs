@@ -3,8 +3,8 @@
 mod common;
 
 use common::Random;
-use volkjarp::chance::{self, COUNTS, Chances, FRAMES, SPACING, CHOICES};
-use volkjarp::{Falls, Micros, Refusal};
+use volkjarp::chance::{self, CHOICES, COUNTS, Chances, FRAMES, OutOfRange, SPACING};
+use volkjarp::{Falls, Micros};
 
 const EXAMPLE: [u16; CHOICES] = [30, 31, 32, 232];
 
@@ -164,14 +164,14 @@ fn limits() {
         chance::count(&falls, choices, Micros(spacing), frames).map(|chances| chances.total())
     };
     let five = [30, 31, 32, 232, 300];
-    assert_eq!(asked(&five[..0], 0, 0), Err(Refusal::Chance));
+    assert_eq!(asked(&five[..0], 0, 0), Err(OutOfRange));
     assert_eq!(asked(&five[..1], 0, 0), Ok(1));
     assert_eq!(asked(&five[..4], 0, FRAMES), Ok(1 << 48));
-    assert_eq!(asked(&five, 0, 0), Err(Refusal::Chance));
-    assert_eq!(asked(&EXAMPLE, 0, FRAMES + 1), Err(Refusal::Chance));
-    assert_eq!(asked(&EXAMPLE, 0, usize::MAX), Err(Refusal::Chance));
+    assert_eq!(asked(&five, 0, 0), Err(OutOfRange));
+    assert_eq!(asked(&EXAMPLE, 0, FRAMES + 1), Err(OutOfRange));
+    assert_eq!(asked(&EXAMPLE, 0, usize::MAX), Err(OutOfRange));
     assert_eq!(asked(&EXAMPLE, SPACING.0, FRAMES), Ok(1 << 48));
-    assert_eq!(asked(&EXAMPLE, SPACING.0 + 1, 0), Err(Refusal::Chance));
-    assert_eq!(asked(&EXAMPLE, u64::MAX, 0), Err(Refusal::Chance));
-    assert_eq!((Refusal::Chance.number(), SPACING.0), (13, 1_000_000_000));
+    assert_eq!(asked(&EXAMPLE, SPACING.0 + 1, 0), Err(OutOfRange));
+    assert_eq!(asked(&EXAMPLE, u64::MAX, 0), Err(OutOfRange));
+    assert_eq!((OutOfRange.number(), SPACING.0), (13, 1_000_000_000));
 }

@@ -1,4 +1,4 @@
-//! The refusals, by the numbers of documents 01 and 02.
+//! The refusals, by document 01's numbers.
 
 use rusty_esp_core::Error;
 
