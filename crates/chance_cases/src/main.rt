@@ -6,6 +6,8 @@ ghost use Rattle.std.specs.Prelude.{◌≡◌, length};
 use cases::{Case, number, text};
 use chance::{COUNTS, Chances};
 use fall::FallConfig;
+use std::io;
+use std::io::Input;
 
 // The choices begin behind the settings, the spacing and the number of frames.
 const HEAD: usize = 62;
@@ -40,43 +42,43 @@ fn all_choices(bytes: &[u8; LONGEST]) -> [u16; MOST_CHOICES]
     choices
 }
 
-fn line(r: Chances) {
+fn line(rt: &impl Print, r: Chances) -> io::Result<()> {
     if 0 < r.refusal {
-        text(b"refused");
-        number(r.refusal as u64);
+        text(rt, b"refused")?;
+        number(rt, r.refusal as u64)?;
     } else {
-        text(b"chances");
+        text(rt, b"chances")?;
         let counts = r.counts;
         for k in 0..COUNTS {
-            number(counts[k]);
+            number(rt, counts[k])?;
         }
     }
-    cases::end_line();
+    cases::end_line(rt)
 }
 
 // A case: the settings (46 bytes), the spacing and the number of frames (8 bytes each), then the choices, two bytes each.
-fn replay(bytes: &[u8; LONGEST], len: usize) {
+fn replay(rt: &(impl Input + Print), bytes: &[u8; LONGEST], len: usize) -> io::Result<()> {
     if len < HEAD {
-        return;
+        return Ok(());
     }
     if LONGEST < len {
-        return;
+        return Ok(());
     }
     let choices = all_choices(bytes);
     let spacing = num::steps::u64_at(bytes, 46);
     let n = num::steps::u64_at(bytes, 54) as usize;
     let k = (len - HEAD) / 2;
-    line(chance::count(config(bytes), &choices[0..k], spacing, n));
+    line(rt, chance::count(config(bytes), &choices[0..k], spacing, n))
 }
 
 // The next case, and whether there was one.
-fn next() -> bool {
+fn next(rt: &(impl Input + Print)) -> io::Result<bool> {
     let mut buf = [0u8; LONGEST];
-    match cases::next(&mut buf) {
-        Case::End => false,
+    match cases::next(rt, &mut buf)? {
+        Case::End => Ok(false),
         Case::Bytes(len) => {
-            replay(&buf, len);
-            true
+            replay(rt, &buf, len)?;
+            Ok(true)
         }
     }
 }
@@ -84,10 +86,11 @@ fn next() -> bool {
 // The most cases that are replayed.
 const MOST: usize = 100000;
 
-fn main() {
+fn main(rt: HostRuntime) -> io::Result<()> {
     for _i in 0..MOST {
-        if !next() {
-            return;
+        if !next(&rt)? {
+            return Ok(());
         }
     }
+    Ok(())
 }

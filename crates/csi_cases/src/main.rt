@@ -6,6 +6,8 @@ ghost use Rattle.std.specs.Prelude.{◌<◌, ◌≤◌, length};
 
 use cases::Case;
 use csi::{Features, Measured};
+use std::io;
+use std::io::Input;
 
 // A case: a kind, then a tag and I/Q bytes, or the fields of features (count, amplitudes, mean, variance; words low byte first).
 const FRAME: u8 = 0;
@@ -37,30 +39,32 @@ fn check(amplitude: &[u16; csi::MAX_SUBCARRIERS]) -> u64 {
 }
 
 // Prints an answer: `COUNT MEAN VARIANCE CHECK`, or `refused NUMBER`.
-fn measured(m: Measured) {
+fn measured(rt: &impl Print, m: Measured) -> io::Result<()> {
     if m.refusal == 0 {
         let f = m.features;
         let amplitude = f.amplitude;
-        cases::number(f.count as u64);
-        cases::number(f.mean as u64);
-        cases::number(f.variance as u64);
-        cases::number(check(&amplitude));
+        cases::number(rt, f.count as u64)?;
+        cases::number(rt, f.mean as u64)?;
+        cases::number(rt, f.variance as u64)?;
+        cases::number(rt, check(&amplitude))?;
     } else {
-        cases::text(b" refused");
-        cases::number(m.refusal as u64);
+        cases::text(rt, b" refused")?;
+        cases::number(rt, m.refusal as u64)?;
     }
+    Ok(())
 }
 
 // The features of I/Q bytes, and the same normalised.
-fn frame(iq: &[u8], tag: u8) {
+fn frame(rt: &impl Print, iq: &[u8], tag: u8) -> io::Result<()> {
     let m = csi::frame::features(iq, tag);
-    cases::text(b"features");
-    measured(m);
+    cases::text(rt, b"features")?;
+    measured(rt, m)?;
     if m.refusal == 0 {
         let f = m.features;
-        cases::text(b" normalised");
-        measured(f.normalised());
+        cases::text(rt, b" normalised")?;
+        measured(rt, f.normalised())?;
     }
+    Ok(())
 }
 
 // The amplitudes of a case.
@@ -74,9 +78,9 @@ fn amplitudes(bytes: &[u8]) -> [u16; csi::MAX_SUBCARRIERS]
     amplitude
 }
 
-fn hand_made(bytes: &[u8]) {
+fn hand_made(rt: &impl Print, bytes: &[u8]) -> io::Result<()> {
     if bytes.len() < HAND_MADE {
-        return;
+        return Ok(());
     }
     let amplitude = amplitudes(bytes);
     let f = Features {
@@ -85,42 +89,43 @@ fn hand_made(bytes: &[u8]) {
         mean: num::steps::u16_at(bytes, MEAN),
         variance: num::steps::u32_at(bytes, VARIANCE),
     };
-    cases::text(b"normalised");
-    measured(f.normalised());
+    cases::text(rt, b"normalised")?;
+    measured(rt, f.normalised())
 }
 
-fn line(bytes: &[u8]) {
+fn line(rt: &impl Print, bytes: &[u8]) -> io::Result<()> {
     if 2 <= bytes.len() {
         if bytes[0] == FRAME {
-            frame(&bytes[2..], bytes[1]);
+            frame(rt, &bytes[2..], bytes[1])?;
         } else {
-            hand_made(bytes);
+            hand_made(rt, bytes)?;
         }
     }
-    cases::end_line();
+    cases::end_line(rt)
 }
 
 // Replays the next case; false at the end of them.
-fn replay() -> bool {
+fn replay(rt: &(impl Input + Print)) -> io::Result<bool> {
     let mut buf = [0u8; MOST_BYTES];
-    match cases::next(&mut buf) {
+    match cases::next(rt, &mut buf)? {
         Case::Bytes(n) => {
             if n <= MOST_BYTES {
-                line(&buf[0..n]);
+                line(rt, &buf[0..n])?;
             }
-            true
+            Ok(true)
         }
-        Case::End => false,
+        Case::End => Ok(false),
     }
 }
 
 // The most cases that are replayed.
 const MOST: usize = 100000;
 
-fn main() {
+fn main(rt: HostRuntime) -> io::Result<()> {
     for _i in 0..MOST {
-        if !replay() {
-            return;
+        if !replay(&rt)? {
+            return Ok(());
         }
     }
+    Ok(())
 }

@@ -5,6 +5,8 @@ ghost use Rattle.std.specs.Prelude.{◌<◌, ◌≤◌};
 
 use cases::Case;
 use csi_stream::{Decoded, Encoded, Sample};
+use std::io;
+use std::io::Input;
 
 // The space that encoding gets, and what it holds before.
 const SPACE: usize = 150;
@@ -27,26 +29,26 @@ fn wide(b: u8) -> u64
 }
 
 // What a record decodes to: its numbers, or zeros where it is refused.
-fn decoded(bytes: &[u8]) -> Sample {
+fn decoded(rt: &impl Print, bytes: &[u8]) -> io::Result<Sample> {
     match Sample::decode(bytes) {
         Decoded::Accepted(s, n) => {
-            cases::text(b"sample");
-            cases::number(s.layout as u64);
-            cases::signed_byte(s.rssi);
-            cases::number(s.channel as u64);
-            cases::number(s.at);
-            cases::number(n as u64);
-            s
+            cases::text(rt, b"sample")?;
+            cases::number(rt, s.layout as u64)?;
+            cases::signed_byte(rt, s.rssi)?;
+            cases::number(rt, s.channel as u64)?;
+            cases::number(rt, s.at)?;
+            cases::number(rt, n as u64)?;
+            Ok(s)
         }
         Decoded::Refused(number) => {
-            cases::text(b"refused");
-            cases::number(number as u64);
-            Sample {
+            cases::text(rt, b"refused")?;
+            cases::number(rt, number as u64)?;
+            Ok(Sample {
                 at: 0,
                 rssi: 0,
                 channel: 0,
                 layout: 0,
-            }
+            })
         }
     }
 }
@@ -58,61 +60,63 @@ fn smaller(a: usize, b: usize) -> usize
 }
 
 // Encodes into the first `size` bytes of the space.
-fn encoded(s: Sample, iq: &[u8], size: usize) {
+fn encoded(rt: &impl Print, s: Sample, iq: &[u8], size: usize) -> io::Result<()> {
     let mut out = [FILL; SPACE];
     let m = smaller(size, SPACE);
     match s.encode(iq, &mut out[0..m]) {
         Encoded::Written(total) => {
-            cases::text(b" written");
-            cases::number(total as u64);
-            cases::number(check(&out));
+            cases::text(rt, b" written")?;
+            cases::number(rt, total as u64)?;
+            cases::number(rt, check(&out))?;
         }
         Encoded::Refused(number) => {
-            cases::text(b" refused");
-            cases::number(number as u64);
+            cases::text(rt, b" refused")?;
+            cases::number(rt, number as u64)?;
         }
         Encoded::Short(need) => {
-            cases::text(b" short");
-            cases::number(need as u64);
+            cases::text(rt, b" short")?;
+            cases::number(rt, need as u64)?;
         }
     }
+    Ok(())
 }
 
 // One record: decoded, then its numbers encoded with the bytes behind a header as I/Q, into the whole space and into one byte too few.
-fn line(bytes: &[u8]) {
-    let s = decoded(bytes);
+fn line(rt: &impl Print, bytes: &[u8]) -> io::Result<()> {
+    let s = decoded(rt, bytes)?;
     let n = bytes.len();
     if n < csi_stream::HEADER_LEN {
-        encoded(s, &bytes[0..0], SPACE);
-        encoded(s, &bytes[0..0], csi_stream::HEADER_LEN - 1);
+        encoded(rt, s, &bytes[0..0], SPACE)?;
+        encoded(rt, s, &bytes[0..0], csi_stream::HEADER_LEN - 1)?;
     } else {
-        encoded(s, &bytes[csi_stream::HEADER_LEN..], SPACE);
-        encoded(s, &bytes[csi_stream::HEADER_LEN..], n - 1);
+        encoded(rt, s, &bytes[csi_stream::HEADER_LEN..], SPACE)?;
+        encoded(rt, s, &bytes[csi_stream::HEADER_LEN..], n - 1)?;
     }
-    cases::end_line();
+    cases::end_line(rt)
 }
 
 // Replays the next case; false at the end of them.
-fn replay() -> bool {
+fn replay(rt: &(impl Input + Print)) -> io::Result<bool> {
     let mut buf = [0u8; 512];
-    match cases::next(&mut buf) {
+    match cases::next(rt, &mut buf)? {
         Case::Bytes(n) => {
             if n <= 512 {
-                line(&buf[0..n]);
+                line(rt, &buf[0..n])?;
             }
-            true
+            Ok(true)
         }
-        Case::End => false,
+        Case::End => Ok(false),
     }
 }
 
 // The most cases that are replayed.
 const MOST: usize = 100000;
 
-fn main() {
+fn main(rt: HostRuntime) -> io::Result<()> {
     for _i in 0..MOST {
-        if !replay() {
-            return;
+        if !replay(&rt)? {
+            return Ok(());
         }
     }
+    Ok(())
 }

@@ -122,6 +122,7 @@ impl FallDetector {
     }
 
     // A frame: its wander and its time.
+    #[tactic(auto, unfolding(crate::specs::Fall::pushed))]
     pub fn push(self, wander: u16, now: u64) -> Pushed
         ensures { result ≡ pushed self wander now }
     {
@@ -147,6 +148,7 @@ pub fn push_mut(state: &mut FallDetector, wander: u16, now: u64) -> Suspicion
     r.suspicion
 }
 
+#[tactic(auto, unfolding(crate::specs::Fall::step_of))]
 fn step(c: FallConfig, phase: Phase, wander: u16, now: u64) -> Stepped
     ensures { result ≡ step_of c phase wander now }
 {

@@ -6,62 +6,66 @@ ghost use Rattle.fall.specs.Fall.{pushed};
 
 use cases::{Case, number, text};
 use fall::{FallConfig, FallDetector, Phase, Pushed, Quiet, Suspicion};
+use std::io;
+use std::io::Input;
 
 // The state, and what it holds in the Rust's order.
-fn state(phase: Phase) {
+fn state(rt: &impl Print, phase: Phase) -> io::Result<()> {
     match phase {
-        Phase::Idle => text(b" idle"),
+        Phase::Idle => text(rt, b" idle")?,
         Phase::Active { since, quiet_since } => {
-            text(b" active");
-            number(since);
+            text(rt, b" active")?;
+            number(rt, since)?;
             if let Quiet::Since(q) = quiet_since {
-                number(q);
+                number(rt, q)?;
             }
         }
         Phase::Burst { at, peak } => {
-            text(b" burst");
-            number(at);
-            number(peak as u64);
+            text(rt, b" burst")?;
+            number(rt, at)?;
+            number(rt, peak as u64)?;
         }
         Phase::Settling {
             burst_at,
             peak,
             still_since,
         } => {
-            text(b" settling");
-            number(burst_at);
-            number(peak as u64);
-            number(still_since);
+            text(rt, b" settling")?;
+            number(rt, burst_at)?;
+            number(rt, peak as u64)?;
+            number(rt, still_since)?;
         }
         Phase::Refractory { until } => {
-            text(b" refractory");
-            number(until);
+            text(rt, b" refractory")?;
+            number(rt, until)?;
         }
     }
+    Ok(())
 }
 
-fn event(suspicion: Suspicion) {
+fn event(rt: &impl Print, suspicion: Suspicion) -> io::Result<()> {
     if let Suspicion::Fall(e) = suspicion {
-        text(b" fall");
-        number(e.burst_at);
-        number(e.peak_permille as u64);
-        number(e.still_since);
-        number(e.at);
+        text(rt, b" fall")?;
+        number(rt, e.burst_at)?;
+        number(rt, e.peak_permille as u64)?;
+        number(rt, e.still_since)?;
+        number(rt, e.at)?;
     }
+    Ok(())
 }
 
 // A line: the frame, the state after it and what it says. The detector after it.
-fn line(wander: u16, now: u64, r: Pushed) -> FallDetector {
-    text(b"frame");
-    number(wander as u64);
-    number(now);
+fn line(rt: &impl Print, wander: u16, now: u64, r: Pushed) -> io::Result<FallDetector> {
+    text(rt, b"frame")?;
+    number(rt, wander as u64)?;
+    number(rt, now)?;
     let detector = r.detector;
     let phase = detector.phase;
-    state(phase);
+    state(rt, phase)?;
     let suspicion = r.suspicion;
-    event(suspicion);
-    cases::end_line();
-    detector
+    event(rt, suspicion)?;
+    cases::end_line(rt)?;
+    Ok(detector)
 }
 
 // A frame of a detector that is lent: what a caller of `push_mut` does.
@@ -93,11 +97,11 @@ fn both(config: FallConfig) -> Machines {
 // The settings of new machines: three thresholds, then five durations.
 const SETTINGS: usize = 46;
 
-fn begin(bytes: &[u8]) -> Machines
+fn begin(rt: &impl Print, bytes: &[u8]) -> io::Result<Machines>
     requires { 46 ≤ length bytes.now }
 {
-    cases::text(b"new\n");
-    both(FallConfig {
+    cases::text(rt, b"new\n")?;
+    Ok(both(FallConfig {
         active_permille: num::steps::u16_at(bytes, 0),
         burst_permille: num::steps::u16_at(bytes, 2),
         still_permille: num::steps::u16_at(bytes, 4),
@@ -106,23 +110,23 @@ fn begin(bytes: &[u8]) -> Machines
         settle: num::steps::u64_at(bytes, 22),
         still_for: num::steps::u64_at(bytes, 30),
         refractory: num::steps::u64_at(bytes, 38),
-    })
+    }))
 }
 
 // A frame: the wander, then the time.
 const FRAME: usize = 10;
 
-fn frame(m: Machines, bytes: &[u8]) -> Machines
+fn frame(rt: &impl Print, m: Machines, bytes: &[u8]) -> io::Result<Machines>
     requires { 10 ≤ length bytes.now }
 {
     let wander = num::steps::u16_at(bytes, 0);
     let now = num::steps::u64_at(bytes, 2);
     let value = m.value;
     let lent = m.lent;
-    Machines {
-        value: line(wander, now, value.push(wander, now)),
-        lent: line(wander, now, push_lent(lent, wander, now)),
-    }
+    Ok(Machines {
+        value: line(rt, wander, now, value.push(wander, now))?,
+        lent: line(rt, wander, now, push_lent(lent, wander, now))?,
+    })
 }
 
 // The machines after the next case, and whether there was one.
@@ -132,46 +136,47 @@ struct Replayed {
     more: bool,
 }
 
-fn replay(machines: Machines) -> Replayed {
+fn replay(rt: &(impl Input + Print), machines: Machines) -> io::Result<Replayed> {
     let mut buf = [0u8; 64];
-    match cases::next(&mut buf) {
+    match cases::next(rt, &mut buf)? {
         Case::Bytes(n) => {
             let bytes = &buf[..];
             if n == SETTINGS {
-                return Replayed {
-                    machines: begin(bytes),
+                return Ok(Replayed {
+                    machines: begin(rt, bytes)?,
                     more: true,
-                };
+                });
             }
             if n == FRAME {
-                return Replayed {
-                    machines: frame(machines, bytes),
+                return Ok(Replayed {
+                    machines: frame(rt, machines, bytes)?,
                     more: true,
-                };
+                });
             }
-            Replayed {
+            Ok(Replayed {
                 machines,
                 more: false,
-            }
+            })
         }
-        Case::End => Replayed {
+        Case::End => Ok(Replayed {
             machines,
             more: false,
-        },
+        }),
     }
 }
 
 // The most cases that are replayed.
 const MOST: usize = 100000;
 
-fn main() {
+fn main(rt: HostRuntime) -> io::Result<()> {
     let mut machines = both(FallConfig::normalised_default());
     for _i in 0..MOST {
-        let r = replay(machines);
+        let r = replay(&rt, machines)?;
         if !r.more {
-            return;
+            return Ok(());
         }
         let next = r.machines;
         machines = next;
     }
+    Ok(())
 }

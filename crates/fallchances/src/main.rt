@@ -7,7 +7,7 @@ ghost use Rattle.std.specs.Prelude.{◌^◌, ◌≤◌, ◌<◌};
 use cases::{number, text};
 use chance::{COUNTS, FRAMES};
 use fall::FallConfig;
-use libc::STDOUT_FILENO;
+use std::io;
 
 // Still, neither still nor active, active, and a burst.
 const CHOICES: [u16; 4] = [30, 31, 32, 232];
@@ -32,47 +32,48 @@ fn divisor(a: u64, b: u64) -> u64
     x
 }
 
-fn fraction(count: u64, total: u64)
+fn fraction(rt: &impl Print, count: u64, total: u64) -> io::Result<()>
     requires { 0 < total }
 {
     let d = divisor(total, count);
-    number(count / d);
-    text(b"/");
-    io::print_decimal(STDOUT_FILENO, total / d);
+    number(rt, count / d)?;
+    text(rt, b"/")?;
+    rt.print(total / d)
 }
 
-fn probability(count: u64, total: u64)
+fn probability(rt: &impl Print, count: u64, total: u64) -> io::Result<()>
     requires { (0 < total) × (total ≤ 4 ^ 24) }
 {
-    number(count / total);
-    text(b".");
+    number(rt, count / total)?;
+    text(rt, b".")?;
     let mut rest = count % total;
     for _i in 0..DECIMALS {
-        io::print_decimal(STDOUT_FILENO, rest * 10 / total);
+        rt.print(rest * 10 / total)?;
         rest = rest * 10 % total;
     }
+    Ok(())
 }
 
-fn line(frames: usize, events: usize, count: u64, total: u64)
+fn line(rt: &impl Print, frames: usize, events: usize, count: u64, total: u64) -> io::Result<()>
     requires { (0 < total) × (total ≤ 4 ^ 24) }
 {
-    text(b"frames");
-    number(frames as u64);
-    text(b" events");
-    number(events as u64);
-    text(b" count");
-    number(count);
-    text(b" of");
-    number(total);
-    text(b" fraction");
-    fraction(count, total);
-    text(b" probability");
-    probability(count, total);
-    cases::end_line();
+    text(rt, b"frames")?;
+    number(rt, frames as u64)?;
+    text(rt, b" events")?;
+    number(rt, events as u64)?;
+    text(rt, b" count")?;
+    number(rt, count)?;
+    text(rt, b" of")?;
+    number(rt, total)?;
+    text(rt, b" fraction")?;
+    fraction(rt, count, total)?;
+    text(rt, b" probability")?;
+    probability(rt, count, total)?;
+    cases::end_line(rt)
 }
 
 // The numbers of events that come up.
-fn lines(frames: usize, total: u64)
+fn lines(rt: &impl Print, frames: usize, total: u64) -> io::Result<()>
     requires { (0 < total) × (total ≤ 4 ^ 24) }
 {
     let choices = CHOICES;
@@ -80,18 +81,19 @@ fn lines(frames: usize, total: u64)
     let counts = r.counts;
     for k in 0..COUNTS {
         if 0 < counts[k] {
-            line(frames, k, counts[k], total);
+            line(rt, frames, k, counts[k], total)?;
         }
     }
+    Ok(())
 }
 
-fn main() {
+fn main(rt: HostRuntime) -> io::Result<()> {
     let mut total: u64 = 1;
     let mut n = 0;
     while n < FRAMES {
-        lines(n, total);
+        lines(&rt, n, total)?;
         total *= 4;
         n += 1;
     }
-    lines(FRAMES, total);
+    lines(&rt, FRAMES, total)
 }

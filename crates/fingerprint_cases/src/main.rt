@@ -5,6 +5,8 @@
 use cases::Case;
 use csi::Features;
 use fingerprint::{Baseline, Calibrated, Reading};
+use std::io;
+use std::io::Input;
 
 // A case: the baseline's sum and frames, a frame's count and its variance, words low byte first.
 const FRAMES: usize = 8;
@@ -18,30 +20,32 @@ const LENGTH: usize = 17;
 const MOST_BYTES: usize = 64;
 
 // Prints the value, or `refused NUMBER`.
-fn reading(r: Reading) {
+fn reading(rt: &impl Print, r: Reading) -> io::Result<()> {
     match r {
-        Reading::Value(v) => cases::number(v as u64),
+        Reading::Value(v) => cases::number(rt, v as u64)?,
         Reading::Refused(k) => {
-            cases::text(b" refused");
-            cases::number(k as u64);
+            cases::text(rt, b" refused")?;
+            cases::number(rt, k as u64)?;
         }
     }
+    Ok(())
 }
 
-fn calibrated(c: Calibrated) {
+fn calibrated(rt: &impl Print, c: Calibrated) -> io::Result<()> {
     match c {
         Calibrated::Baseline(b) => {
-            cases::number(b.sum);
-            cases::number(b.frames as u64);
+            cases::number(rt, b.sum)?;
+            cases::number(rt, b.frames as u64)?;
         }
         Calibrated::Refused(k) => {
-            cases::text(b" refused");
-            cases::number(k as u64);
+            cases::text(rt, b" refused")?;
+            cases::number(rt, k as u64)?;
         }
     }
+    Ok(())
 }
 
-fn line(bytes: &[u8]) {
+fn line(rt: &impl Print, bytes: &[u8]) -> io::Result<()> {
     if LENGTH <= bytes.len() {
         let b = Baseline {
             sum: num::steps::u64_at(bytes, 0),
@@ -53,37 +57,38 @@ fn line(bytes: &[u8]) {
             mean: 0,
             variance: num::steps::u32_at(bytes, VARIANCE),
         };
-        cases::text(b"mean");
-        reading(b.mean());
-        cases::text(b" distance");
-        reading(b.distance(f));
-        cases::text(b" calibrated");
-        calibrated(b.calibrate(f));
+        cases::text(rt, b"mean")?;
+        reading(rt, b.mean())?;
+        cases::text(rt, b" distance")?;
+        reading(rt, b.distance(f))?;
+        cases::text(rt, b" calibrated")?;
+        calibrated(rt, b.calibrate(f))?;
     }
-    cases::end_line();
+    cases::end_line(rt)
 }
 
 // Replays the next case; false at the end of them.
-fn replay() -> bool {
+fn replay(rt: &(impl Input + Print)) -> io::Result<bool> {
     let mut buf = [0u8; MOST_BYTES];
-    match cases::next(&mut buf) {
+    match cases::next(rt, &mut buf)? {
         Case::Bytes(n) => {
             if n <= MOST_BYTES {
-                line(&buf[0..n]);
+                line(rt, &buf[0..n])?;
             }
-            true
+            Ok(true)
         }
-        Case::End => false,
+        Case::End => Ok(false),
     }
 }
 
 // The most cases that are replayed.
 const MOST: usize = 100000;
 
-fn main() {
+fn main(rt: HostRuntime) -> io::Result<()> {
     for _i in 0..MOST {
-        if !replay() {
-            return;
+        if !replay(&rt)? {
+            return Ok(());
         }
     }
+    Ok(())
 }

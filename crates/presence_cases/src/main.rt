@@ -7,6 +7,8 @@ ghost use Rattle.std.specs.Prelude.{◌≡◌, ◌<◌, ◌≤◌, min, length};
 use cases::Case;
 use detector::State;
 use presence::{Config, Sums};
+use std::io;
+use std::io::Input;
 
 // The longest run, in bytes, and the largest memory that one is lent.
 const LONGEST: usize = 16384;
@@ -70,7 +72,15 @@ struct Held {
 }
 
 // The frame at the front of `part`, as often as it comes; the last answer is printed.
-fn fed(rows: &mut [u8], w: usize, config: Config, held: Held, part: &[u8], times: usize) -> Held
+fn fed(
+    rt: &impl Print,
+    rows: &mut [u8],
+    w: usize,
+    config: Config,
+    held: Held,
+    part: &[u8],
+    times: usize,
+) -> io::Result<Held>
     requires { (11 ≤ length part.now) × (times < 65536) }
 {
     let amplitude = entries(&part[FRAME..]);
@@ -92,25 +102,25 @@ fn fed(rows: &mut [u8], w: usize, config: Config, held: Held, part: &[u8], times
         motion = verdict.motion();
     }
     if refusal == 0 {
-        cases::number(tag as u64);
-        cases::number(motion as u64);
-        cases::number(state.wander as u64);
+        cases::number(rt, tag as u64)?;
+        cases::number(rt, motion as u64)?;
+        cases::number(rt, state.wander as u64)?;
     } else {
-        cases::text(b" refused");
-        cases::number(refusal as u64);
+        cases::text(rt, b" refused")?;
+        cases::number(rt, refusal as u64)?;
     }
-    Held { state, sums }
+    Ok(Held { state, sums })
 }
 
-fn reset(rows: &[u8], w: usize, held: Held) -> Held {
+fn reset(rt: &impl Print, rows: &[u8], w: usize, held: Held) -> io::Result<Held> {
     let before = held.state;
     let carried = held.sums;
     let r = presence::reset(rows, w, before, carried);
-    cases::text(b" reset");
-    cases::number(r.refusal as u64);
+    cases::text(rt, b" reset")?;
+    cases::number(rt, r.refusal as u64)?;
     let state = r.state;
     let sums = r.sums;
-    Held { state, sums }
+    Ok(Held { state, sums })
 }
 
 fn damaged(held: Held) -> Held {
@@ -121,17 +131,24 @@ fn damaged(held: Held) -> Held {
 }
 
 // What stands at the front of `part`.
-fn step(rows: &mut [u8], w: usize, config: Config, held: Held, part: &[u8]) -> Held
+fn step(
+    rt: &impl Print,
+    rows: &mut [u8],
+    w: usize,
+    config: Config,
+    held: Held,
+    part: &[u8],
+) -> io::Result<Held>
     requires { 11 ≤ length part.now }
 {
     if part[2] == RESET {
-        return reset(rows, w, held);
+        return reset(rt, rows, w, held);
     }
     if part[2] == DAMAGE {
         return damaged(held);
     }
     let times = num::steps::u16_at(part, 0) as usize;
-    fed(rows, w, config, held, part, times)
+    fed(rt, rows, w, config, held, part, times)
 }
 
 // How many entries follow a count.
@@ -150,20 +167,28 @@ fn frame_length(part: &[u8]) -> usize
 }
 
 // All frames of a run.
-fn frames(rows: &mut [u8], w: usize, config: Config, held: Held, bytes: &[u8]) {
+fn frames(
+    rt: &impl Print,
+    rows: &mut [u8],
+    w: usize,
+    config: Config,
+    held: Held,
+    bytes: &[u8],
+) -> io::Result<()> {
     let mut now = held;
     let mut at = 0;
     while FRAME <= bytes.len() - at {
         let part = &bytes[at..];
-        let next = step(rows, w, config, now, part);
+        let next = step(rt, rows, w, config, now, part)?;
         now = next;
         at += frame_length(&bytes[at..]);
     }
+    Ok(())
 }
 
-fn line(bytes: &[u8], rows: &mut [u8]) {
+fn line(rt: &impl Print, bytes: &[u8], rows: &mut [u8]) -> io::Result<()> {
     if bytes.len() < HEAD {
-        return;
+        return Ok(());
     }
     let w = num::steps::u16_at(bytes, 0) as usize;
     let len = smaller(num::steps::u32_at(bytes, 2) as usize, rows.len());
@@ -174,40 +199,41 @@ fn line(bytes: &[u8], rows: &mut [u8]) {
     };
     let lent = &mut rows[0..len];
     let r = presence::new(lent, w);
-    cases::text(b"new");
-    cases::number(r.refusal as u64);
+    cases::text(rt, b"new")?;
+    cases::number(rt, r.refusal as u64)?;
     let state = r.state;
     let sums = r.sums;
-    frames(lent, w, config, Held { state, sums }, &bytes[HEAD..]);
-    cases::end_line();
+    frames(rt, lent, w, config, Held { state, sums }, &bytes[HEAD..])?;
+    cases::end_line(rt)
 }
 
-fn over_memory(bytes: &[u8]) {
+fn over_memory(rt: &impl Print, bytes: &[u8]) -> io::Result<()> {
     let mut rows = [FILL; MEMORY];
-    line(bytes, &mut rows);
+    line(rt, bytes, &mut rows)
 }
 
 // Replays the next run; false at the end of them.
-fn replay() -> bool {
+fn replay(rt: &(impl Input + Print)) -> io::Result<bool> {
     let mut buf = [0u8; LONGEST];
-    match cases::next(&mut buf) {
+    match cases::next(rt, &mut buf)? {
         Case::Bytes(n) => {
             if n <= LONGEST {
-                over_memory(&buf[0..n]);
+                over_memory(rt, &buf[0..n])?;
             }
-            true
+            Ok(true)
         }
-        Case::End => false,
+        Case::End => Ok(false),
     }
 }
 
 // The most runs that are replayed.
 const MOST: usize = 100000;
 
-fn main() {
+fn main(rt: HostRuntime) -> io::Result<()> {
     for _i in 0..MOST {
-        if !replay() {
-            return;
+        if !replay(&rt)? {
+            return Ok(());
         }
     }
+    Ok(())
 }

@@ -5,6 +5,8 @@ ghost use Rattle.std.specs.Prelude.{◌*◌, ◌+◌, ◌≤◌, ◌<◌, length
 
 use cases::{Case, number, text};
 use estimator::{Answer, Begun, Pushed, VitalsEstimator};
+use std::io;
+use std::io::Input;
 use vitals::band::Band;
 use vitals::config::VitalsConfig;
 use window::COLUMNS;
@@ -27,12 +29,12 @@ struct Run {
     state: VitalsEstimator,
 }
 
-fn refused(refusal: u8) {
-    text(b"refused");
-    number(refusal as u64);
+fn refused(rt: &impl Print, refusal: u8) -> io::Result<()> {
+    text(rt, b"refused")?;
+    number(rt, refusal as u64)
 }
 
-fn lags(bytes: &[u8])
+fn lags(rt: &impl Print, bytes: &[u8]) -> io::Result<()>
     requires { 12 ≤ length bytes.now }
 {
     let band = Band {
@@ -41,12 +43,13 @@ fn lags(bytes: &[u8])
     };
     let c = band.lags(num::steps::u32_at(bytes, 8));
     if c.refusal == 0 {
-        text(b"lags");
-        number(c.lags.lo as u64);
-        number(c.lags.hi as u64);
+        text(rt, b"lags")?;
+        number(rt, c.lags.lo as u64)?;
+        number(rt, c.lags.hi as u64)?;
     } else {
-        refused(c.refusal);
+        refused(rt, c.refusal)?;
     }
+    Ok(())
 }
 
 fn settings(bytes: &[u8]) -> VitalsConfig
@@ -76,60 +79,61 @@ fn bytes_of(n: usize) -> usize
 }
 
 // A new estimator, or the one before where the settings are refused.
-fn begin(rows: &[u8], run: Run, bytes: &[u8]) -> Run
+fn begin(rt: &impl Print, rows: &[u8], run: Run, bytes: &[u8]) -> io::Result<Run>
     requires { (16384 ≤ length rows.now) × (22 ≤ length bytes.now) }
 {
     let n = num::steps::u16_at(bytes, 0) as usize;
     let config = settings(bytes);
     let b = VitalsEstimator::new(&rows[0..bytes_of(n)], n, config);
     if b.refusal == 0 {
-        text(b"new");
+        text(rt, b"new")?;
         let state = b.state;
-        return Run { n, config, state };
+        return Ok(Run { n, config, state });
     }
-    refused(b.refusal);
-    run
+    refused(rt, b.refusal)?;
+    Ok(run)
 }
 
-fn reset(rows: &[u8], run: Run) -> Run
+fn reset(rt: &impl Print, rows: &[u8], run: Run) -> io::Result<Run>
     requires { 16384 ≤ length rows.now }
 {
     let state = run.state;
     let config = run.config;
     let b = state.reset(&rows[0..bytes_of(run.n)], run.n, config);
     if b.refusal == 0 {
-        text(b"reset");
+        text(rt, b"reset")?;
     } else {
-        refused(b.refusal);
+        refused(rt, b.refusal)?;
     }
     let after = b.state;
-    Run {
+    Ok(Run {
         n: run.n,
         config,
         state: after,
-    }
+    })
 }
 
 // The estimate, if one is due, or the refusal.
-fn answer(p: Pushed) {
+fn answer(rt: &impl Print, p: Pushed) -> io::Result<()> {
     if p.refusal == 0 {
         let a = p.answer;
         match a {
             Answer::Due(v) => {
-                text(b"estimate");
-                number(v.bpm_x10 as u64);
-                number(v.confidence as u64);
-                number(v.lag_x16 as u64);
-                number(v.at);
+                text(rt, b"estimate")?;
+                number(rt, v.bpm_x10 as u64)?;
+                number(rt, v.confidence as u64)?;
+                number(rt, v.lag_x16 as u64)?;
+                number(rt, v.at)?;
                 if v.accepted {
-                    text(b" accepted");
+                    text(rt, b" accepted")?;
                 }
             }
-            Answer::NotDue => text(b"-"),
+            Answer::NotDue => text(rt, b"-")?,
         }
     } else {
-        refused(p.refusal);
+        refused(rt, p.refusal)?;
     }
+    Ok(())
 }
 
 // Amplitude k of a frame.
@@ -156,7 +160,7 @@ fn wide(b: u8) -> usize {
 }
 
 // A frame: its time, its count, its amplitudes.
-fn frame(rows: &mut [u8], run: Run, bytes: &[u8]) -> Run
+fn frame(rt: &impl Print, rows: &mut [u8], run: Run, bytes: &[u8]) -> io::Result<Run>
     requires { (16384 ≤ length rows.old) × (5 ≤ length bytes.now) }
 {
     let time = num::steps::u32_at(bytes, 0) as u64;
@@ -173,32 +177,32 @@ fn frame(rows: &mut [u8], run: Run, bytes: &[u8]) -> Run
         time,
     );
     let after = p.state;
-    answer(p);
-    Run {
+    answer(rt, p)?;
+    Ok(Run {
         n,
         config,
         state: after,
-    }
+    })
 }
 
-fn line(rows: &mut [u8], run: Run, bytes: &[u8]) -> Run
+fn line(rt: &impl Print, rows: &mut [u8], run: Run, bytes: &[u8]) -> io::Result<Run>
     requires { 16384 ≤ length rows.old }
 {
     let n = bytes.len();
     if n == 0 {
-        return reset(rows, run);
+        return reset(rt, rows, run);
     }
     if n == BAND {
-        lags(bytes);
-        return run;
+        lags(rt, bytes)?;
+        return Ok(run);
     }
     if n == SETTINGS {
-        return begin(rows, run, bytes);
+        return begin(rt, rows, run, bytes);
     }
     if n < 5 {
-        return run;
+        return Ok(run);
     }
-    frame(rows, run, bytes)
+    frame(rt, rows, run, bytes)
 }
 
 // The estimator after the next case, and whether there was one.
@@ -208,30 +212,30 @@ struct Replayed {
     more: bool,
 }
 
-fn replay(rows: &mut [u8], run: Run) -> Replayed
+fn replay(rt: &(impl Input + Print), rows: &mut [u8], run: Run) -> io::Result<Replayed>
     requires { 16384 ≤ length rows.old }
 {
     let mut buf = [0u8; 256];
-    match cases::next(&mut buf) {
+    match cases::next(rt, &mut buf)? {
         Case::Bytes(n) => {
             if 256 < n {
-                return Replayed { run, more: false };
+                return Ok(Replayed { run, more: false });
             }
-            let after = line(rows, run, &buf[0..n]);
-            cases::end_line();
-            Replayed {
+            let after = line(rt, rows, run, &buf[0..n])?;
+            cases::end_line(rt)?;
+            Ok(Replayed {
                 run: after,
                 more: true,
-            }
+            })
         }
-        Case::End => Replayed { run, more: false },
+        Case::End => Ok(Replayed { run, more: false }),
     }
 }
 
 // The most cases that are replayed.
 const MOST: usize = 100000;
 
-fn main() {
+fn main(rt: HostRuntime) -> io::Result<()> {
     let mut rows = [0u8; ROOM];
     let config = VitalsConfig::breathing(50);
     let b = VitalsEstimator::new(&rows, MOST_BLOCKS, config);
@@ -242,11 +246,12 @@ fn main() {
         state,
     };
     for _i in 0..MOST {
-        let r = replay(&mut rows, run);
+        let r = replay(&rt, &mut rows, run)?;
         if !r.more {
-            return;
+            return Ok(());
         }
         let next = r.run;
         run = next;
     }
+    Ok(())
 }

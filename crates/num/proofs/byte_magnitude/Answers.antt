@@ -1,7 +1,6 @@
 -- `num::byte_magnitude` meets its contract. Assumes nothing.
 use mathlib.Core.Path.{sym}
 use native.Mathlib.Omega.{arith}
-use borrow.Author.Rules.{rules}
 use Rattle.num.proofs.Byte.{low, high}
 use Rattle.num.proofs.byte_magnitude.Goals as goal
 

@@ -1,22 +1,10 @@
 -- `num::dot_i16` meets its contract: the sum so far and that of the rest make the whole. Assumes nothing.
-use mathlib.Core.Path.{◌≡◌, sym, ap, ◌∙◌}
+use mathlib.Core.Path.{◌≡◌}
 use mathlib.Core.List.{List}
-use Prim.Native.Nat.{ℕ, suc, ◌+◌, ◌-◌, ◌*◌, ◌^◌, ◌≤◌, ◌<◌, min}
-use native.Mathlib.Nat.{mul-le-mul}
-use native.Mathlib.Numerals.{add-one}
-use native.Mathlib.Omega.{arith}
-use borrow.Author.Rules.{rules, sfits_of}
-use lib.IntN.{ℤ, pos, nat_abs, ◌+ℤ◌, ◌*ℤ◌, +ℤ_idl, +ℤ_idr, +ℤ_assoc}
-use lib.ListN.{length, get_or, take, drop}
-use lib.Seq.{drop-cons}
-use mir.Syntax.{w16, w64}
-use mir.Val.{SFits, to_z}
-use mir.Facts.{to_z-of_z}
-use Rattle.num.specs.Sum.{dot_z, max_terms}
-use Rattle.num.proofs.Abs.{sfits-abs, abs-sfits, abs-add, abs-mul}
-use Rattle.num.proofs.Fill.{next, done}
-use Rattle.num.proofs.Sum.{dot-terms}
-use Rattle.num.proofs.Read.{to64, read-16-64}
+use Prim.Native.Nat.{ℕ, ◌-◌, ◌*◌, ◌^◌, ◌≤◌}
+use lib.IntN.{ℤ, nat_abs, ◌+ℤ◌}
+use lib.ListN.{take, drop}
+use Rattle.num.specs.Sum.{dot_z}
 use Rattle.num.proofs.dot_i16.Given as goal
 
 -- the products of the first k elements are summed up, of n

@@ -2,7 +2,6 @@
 use Prim.Native.Nat.{ℕ, ◌^◌, ◌<◌}
 use native.Mathlib.Nat.{div-le_self}
 use native.Mathlib.Omega.{arith}
-use borrow.Author.Rules.{rules}
 use Rattle.num.proofs.Root.{root-unique, root_below}
 use Rattle.num.proofs.Scale.{places, places-lt, scaled-least, near-unscaled}
 use Rattle.num.proofs.isqrt.Goals as goal

@@ -2,7 +2,6 @@
 use mathlib.Core.Path.{◌≡◌}
 use Prim.Native.Nat.{ℕ, ◌+◌, ◌-◌, ◌*◌, ◌^◌, ◌≤◌, ◌<◌}
 use native.Mathlib.Omega.{arith}
-use borrow.Author.Rules.{rules}
 use Rattle.num.specs.Root.{root, Near}
 use Rattle.num.proofs.Root.{root-unique}
 use Rattle.num.proofs.Estimate.{near-least, near-most}

@@ -1,6 +1,5 @@
 -- `num::terms` meets its contract. Assumes nothing.
 use native.Mathlib.Omega.{arith}
-use mathlib.Core.Logic.{⊎_elim}
 use Rattle.num.proofs.terms.Goals as goal
 use Rattle.num.proofs.terms.Goals.{else-b-lt-MAX_TERMS, then-b-lt-MAX_TERMS}
 

@@ -1,5 +1,4 @@
 -- `num::unsigned_abs_i32` meets its contract, by the law for every width. Assumes nothing.
-use borrow.Author.Rules.{rules}
 use mir.Syntax.{w32, w64}
 use Rattle.num.proofs.Magnitude.{cast_fits, minus-fits, negative, not_negative, magnitude}
 use Rattle.num.proofs.unsigned_abs_i32.Goals as goal

@@ -1,5 +1,4 @@
 -- `num::unsigned_abs_i8` meets its contract, by the law for every width. Assumes nothing.
-use borrow.Author.Rules.{rules}
 use mir.Syntax.{w8, w32}
 use Rattle.num.proofs.Magnitude.{cast_fits, minus-fits, negative, not_negative, magnitude}
 use Rattle.num.proofs.unsigned_abs_i8.Goals as goal

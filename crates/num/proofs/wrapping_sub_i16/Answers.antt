@@ -1,6 +1,6 @@
 -- `num::wrapping_sub_i16` meets its contract: the difference of two 16-bit numbers fits 64 bits. Assumes nothing.
 use native.Mathlib.Omega.{arith}
-use borrow.Author.Rules.{rules, sfits_of}
+use borrow.Author.Rules.{sfits_of}
 use lib.IntN.{ℤ, ◌-ℤ◌}
 use mir.Syntax.{w16, w64}
 use mir.Val.{SFits}

@@ -1,6 +1,6 @@
 -- `num::steps::put` meets its contract. The invariant of its loop: the first i bytes of `dst` are those of `src`, and the rest is as it was.
 -- The measure is what is left of `src`. Assumes nothing.
-use Prim.Native.Nat.{ℕ, suc, ◌≤◌, ◌<◌, ◌-◌, ◌+◌}
+use Prim.Native.Nat.{ℕ, suc, ◌<◌, ◌+◌}
 use mathlib.Core.Path.{◌≡◌, refl, ◌∙◌}
 use mathlib.Core.List.{List, ◌++◌}
 use native.Mathlib.Nat.{le_of_lt}

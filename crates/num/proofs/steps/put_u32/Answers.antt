@@ -1,5 +1,4 @@
 -- `num::steps::put_u32` meets its contract. Assumes nothing.
-use borrow.Author.Rules.{rules}
 use Rattle.num.proofs.Words.{put-le}
 use Rattle.num.proofs.steps.put_u32.Goals as goal
 

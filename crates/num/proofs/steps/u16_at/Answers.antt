@@ -1,7 +1,6 @@
 -- `num::steps::u16_at` meets its contract. Assumes nothing.
 use native.Mathlib.Omega.{arith}
 use Rattle.num.proofs.Words.{le-pair}
-use borrow.Author.Rules.{rules}
 use Rattle.num.proofs.steps.u16_at.Goals as goal
 
 pub returns : goal.returns

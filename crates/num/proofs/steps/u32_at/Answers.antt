@@ -1,6 +1,5 @@
 -- `num::steps::u32_at` meets its contract: a word is its two halves. Assumes nothing.
 use native.Mathlib.Omega.{arith}
-use borrow.Author.Rules.{rules}
 use Rattle.num.proofs.Words.{le_join}
 use Rattle.num.proofs.steps.u32_at.Goals as goal
 
