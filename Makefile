@@ -21,9 +21,9 @@
 unexport MAKEFLAGS MFLAGS
 
 # each crate X_c has calls for C, and a driver oracle/compare/X
-subjects := $(patsubst crates/%_c,%,$(wildcard crates/*_c))
+subjects := $(filter-out room,$(patsubst crates/%_c,%,$(wildcard crates/*_c)))
 
-# the libraries that rt writes; the room exports its calls itself
+# their static libraries; that of room_c is libroom.a
 parts := $(patsubst %,target/staticlib/lib%.a,room $(subjects:%=%_c))
 
 # the room's drivers, beside each other in oracle/compare/room
@@ -42,8 +42,8 @@ test: need-rt
 	bash .ci/run
 
 # proved and written again where a source is newer
-$(parts): target/staticlib/lib%.a: need-rt FORCE
-	@[ -e $@ ] && [ -z "$$(find crates crates.txt -newer $@ -print -quit)" ] || rt staticlib $*
+$(parts): need-rt FORCE
+	@tools/crates archive $@
 FORCE:
 
 target/staticlib/libvolkjarp.a: $(parts)
@@ -85,7 +85,7 @@ compare-room-scale: target/staticlib/libroom.a
 
 # the program against the Rust, line by line: at least 500,000 records
 compare-roomlines: need-rt
-	rt check roomlines
+	tools/crates program roomlines
 	cd oracle && cargo run --quiet --offline --release --bin compare_roomlines
 
 # its last line is the ratio
@@ -104,19 +104,19 @@ census-picture:
 	mv target/census.svg docs/census.svg
 
 # proves a program; the prover's words go to target/PROGRAM.log
-proved = mkdir -p target; rt check $(1) > target/$(1).log 2>&1 || { tail -n 20 target/$(1).log >&2; exit 1; }
+proved = mkdir -p target; tools/crates program $(1) > target/$(1).log 2>&1 || { tail -n 20 target/$(1).log >&2; exit 1; }
 
 census: need-rt
 	@$(call proved,paircensus)
-	@target/bin/paircensus
+	@crates/paircensus/out/paircensus
 
 tables: need-rt
 	@$(call proved,angletables)
-	@target/bin/angletables$(if $(TABLE), | sed -n 's/^$(TABLE) [0-9]* //p' | grep . || { echo 'TABLE is atan or sine with 256 or 1024 behind it' >&2; exit 1; })
+	@crates/angletables/out/angletables$(if $(TABLE), | sed -n 's/^$(TABLE) [0-9]* //p' | grep . || { echo 'TABLE is atan or sine with 256 or 1024 behind it' >&2; exit 1; })
 
 chances: need-rt
 	@$(call proved,fallchances)
-	@target/bin/fallchances$(if $(FRAMES), | grep '^frames $(FRAMES) ' || { echo 'FRAMES is a number from 0 to 24' >&2; exit 1; })
+	@crates/fallchances/out/fallchances$(if $(FRAMES), | grep '^frames $(FRAMES) ' || { echo 'FRAMES is a number from 0 to 24' >&2; exit 1; })
 
 # drawn by the oracle, which has the angles rounded down too
 angles:

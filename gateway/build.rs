@@ -13,8 +13,11 @@ const ARCHIVE: &str = "libvolkjarp.a";
 
 const VARIABLE: &str = "VOLKJARP_STATICLIB_DIR";
 
-/// What the archive is made from, in the repository.
-const SOURCES: [&str; 2] = ["crates", "crates.txt"];
+/// What the archive is made from: in the repository, this list of its crates, and these folders of
+/// each; what rt makes stands beside them.
+const CRATES: &str = "crates.txt";
+
+const PARTS: [&str; 3] = ["src", "specs", "proofs"];
 
 fn main() {
     println!("cargo:rerun-if-env-changed={VARIABLE}");
@@ -50,12 +53,11 @@ fn named(folder: &OsStr) -> PathBuf {
 }
 
 fn of_the_repository(root: &Path) -> PathBuf {
-    for source in SOURCES {
-        println!("cargo:rerun-if-changed={}", root.join(source).display());
+    let sources = sources(root);
+    for source in &sources {
+        println!("cargo:rerun-if-changed={}", source.display());
     }
-    let changed = SOURCES
-        .iter()
-        .filter_map(|source| newest(&root.join(source)));
+    let changed = sources.iter().filter_map(|source| newest(source));
     let changed = changed.max().unwrap_or(SystemTime::UNIX_EPOCH);
     let folder = root.join("target/staticlib");
     let made = fs::metadata(folder.join(ARCHIVE)).and_then(|archive| archive.modified());
@@ -72,6 +74,16 @@ fn of_the_repository(root: &Path) -> PathBuf {
         ));
     }
     folder.canonicalize().unwrap_or(folder)
+}
+
+/// What the archive is made from.
+fn sources(root: &Path) -> Vec<PathBuf> {
+    let crates = fs::read_dir(root.join("crates")).into_iter().flatten();
+    let parts = crates
+        .flatten()
+        .flat_map(|entry| PARTS.map(|part| entry.path().join(part)));
+    let there = parts.filter(|part| part.exists());
+    there.chain([root.join(CRATES)]).collect()
 }
 
 /// The time of the last change in a file or folder.

@@ -1,4 +1,4 @@
-//! Build script of every driver: `compare_X` links libX_c.a, which `rt staticlib X_c` writes, or libX.a where there is no such crate.
+//! Build script of every driver: `compare_X` links libX_c.a, which `make target/staticlib/libX_c.a` writes, or libX.a where there is no such file.
 
 use std::env;
 use std::path::PathBuf;
@@ -20,9 +20,7 @@ fn main() {
         Some((name, file))
     }) else {
         let folder = folder.display();
-        eprintln!(
-            "{folder} has no library of {subject}: run `rt staticlib {subject}_c`, or set {VARIABLE}"
-        );
+        eprintln!("{folder} has no library of {subject}: run `make library`, or set {VARIABLE}");
         exit(1);
     };
     println!(

@@ -68,6 +68,7 @@ fn time(frame: usize, spacing: u64) -> u64
     frame as u64 * spacing
 }
 
+#[tactic(auto, unfolding(crate::specs::Marks::phase_of, crate::specs::Marks::reached))]
 fn phase_of(c: FallConfig, spacing: u64, m: Mark) -> Phase
     requires { (reached max_frames m ≡ true) × (spacing ≤ max_spacing) }
     ensures { result ≡ phase_of c spacing m }
@@ -98,6 +99,7 @@ fn phase_of(c: FallConfig, spacing: u64, m: Mark) -> Phase
 }
 
 // Whether frame j can meet the mark.
+#[tactic(auto, unfolding(crate::specs::Marks::reached))]
 fn reached(j: usize, m: Mark) -> bool
     ensures { result ≡ reached j m }
 {
@@ -178,6 +180,7 @@ fn end_mark(m: Mark, j: usize) -> usize
 }
 
 // The mark of the state that frame j led to from m.
+#[tactic(auto, unfolding(crate::specs::Marks::next_mark))]
 fn next_mark(m: Mark, j: usize, phase: Phase) -> Mark
     ensures { result ≡ next_mark m j phase }
 {
@@ -200,6 +203,7 @@ fn next_mark(m: Mark, j: usize, phase: Phase) -> Mark
     }
 }
 
+#[tactic(auto, unfolding(crate::specs::Marks::place_of, crate::specs::Marks::reached))]
 fn place_of(m: Mark) -> usize
     requires { reached max_frames m ≡ true }
     ensures { (result ≡ place_of m) × (result < places) }

@@ -39,6 +39,7 @@ impl Words {
     }
 }
 
+#[tactic(auto, unfolding(crate::specs::Stored::words_of))]
 pub fn words_of(phase: Phase) -> Words
     ensures { result ≡ words_of phase }
 {
@@ -59,6 +60,7 @@ pub fn words_of(phase: Phase) -> Words
 }
 
 // Any other tag stands for Idle.
+#[tactic(auto, unfolding(crate::specs::Stored::phase_of))]
 fn stands_for(words: Words) -> Phase
     ensures { result ≡ phase_of words }
 {
@@ -84,6 +86,7 @@ fn stands_for(words: Words) -> Phase
 }
 
 // Words are legal if storing what they load gives them again.
+#[tactic(auto, unfolding(crate::specs::Stored::legal))]
 pub fn is_legal(words: Words) -> bool
     ensures { result ≡ legal words }
 {

@@ -5,9 +5,10 @@ use mathlib.Core.Bool.{true}
 use mathlib.Core.List.{List, [], ◌∷◌, map}
 use Prim.Native.Nat.{ℕ, suc, ◌-◌, ◌≤◌}
 use native.Mathlib.Omega.{arith}
-use lib.IntN.{ℤ, pos}
+use lib.IntN.{ℤ, pos, ◌+ℤ◌, ◌-ℤ◌}
 use lib.ListN.{length, take, replicate, length-append, length-map, length-replicate}
 use lib.Seq.{take_at}
+use Rattle.num.specs.Wrap.{wrap16}
 use Rattle.csi.specs.Layout.{max_subcarriers, known, layout_of, entries_of}
 use Rattle.csi.proofs.Entries.{usable}
 use Rattle.phase.specs.Angle.{entry_angle}
@@ -17,7 +18,7 @@ use Rattle.phase.specs.Phases.{sanitised, frame_phases}
 walk-long : (at prev : ℤ) (angles : List ℤ) → length (walk at prev angles) ≡ length angles
 unfolding walk
 walk-long at prev [] = refl
-walk-long at prev (a ∷ rest) = ap suc (walk-long _ a rest)
+walk-long at prev (a ∷ rest) = ap suc (walk-long (at +ℤ wrap16 (a -ℤ prev)) a rest)
 
 residuals-long : (slope icpt : ℤ) (k : ℕ) (us : List ℤ) → length (residuals slope icpt k us) ≡ length us
 unfolding residuals

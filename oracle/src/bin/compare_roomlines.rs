@@ -1,6 +1,6 @@
 //! The program roomlines against the Rust: `compare_roomlines [seed] [records]`. It is fed the streams
 //! made on purpose and then random ones, until it has had so many records. The program is
-//! ../target/bin/roomlines, or the one that VOLKJARP_ROOMLINES names.
+//! ../crates/roomlines/out/roomlines, or the one that VOLKJARP_ROOMLINES names.
 
 use std::io::{self, Read, Write};
 use std::path::PathBuf;
@@ -43,7 +43,7 @@ fn printed(program: &PathBuf, stream: &[u8], random: &mut Random) -> io::Result<
 
 fn main() -> io::Result<ExitCode> {
     let program = env::var_os("VOLKJARP_ROOMLINES").map_or_else(
-        || PathBuf::from(env!("CARGO_MANIFEST_DIR")).join("../target/bin/roomlines"),
+        || PathBuf::from(env!("CARGO_MANIFEST_DIR")).join("../crates/roomlines/out/roomlines"),
         PathBuf::from,
     );
     let (seed, records) = (argument(1, 1), argument(2, 500_000));

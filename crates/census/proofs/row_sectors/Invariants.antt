@@ -1,0 +1,11 @@
+-- `census::row_sectors` meets its contract. Assumes nothing.
+use Prim.Native.Nat.{◌-◌}
+use Rattle.num.proofs.Building.{Building}
+use Rattle.census.specs.Census.{bytes, signed_byte, sector_in}
+use Rattle.census.proofs.row_sectors.Given as goal
+
+abbrev pub invariant-loop-k : goal.invariant-loop-k
+invariant-loop-k l = Building (λ k. sector_in l.im (signed_byte k)) bytes l.row l.k
+
+abbrev pub decreases-loop-k : goal.decreases-loop-k
+decreases-loop-k l = bytes - l.k

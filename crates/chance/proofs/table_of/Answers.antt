@@ -1,0 +1,30 @@
+-- `chance::table_of` meets its contract.
+use mathlib.Core.Path.{ap, ◌∙◌}
+use Prim.Native.Nat.{ℕ}
+use native.Mathlib.Omega.{arith}
+use lib.ListN.{length-replicate}
+use Rattle.num.proofs.Building.{none-built, more-built, all-built}
+use Rattle.chance.specs.Marks.{entries, entry_of, table_of}
+use Rattle.chance.proofs.table_of.Goals as goal
+
+pub loop-p-init : goal.loop-p-init
+loop-p-init c = none-built _ entries _ (length-replicate {A = ℕ} entries 0)
+
+pub entry_of-v-requires : goal.entry_of-v-requires
+entry_of-v-requires c = c.requires
+
+pub bounds-out-p : goal.bounds-out-p
+bounds-out-p c = omega (arith, c.loop-p.invariant.long)
+
+pub overflow_add-p : goal.overflow_add-p
+overflow_add-p c = omega arith
+
+pub loop-p-smaller : goal.loop-p-smaller
+loop-p-smaller c = omega arith
+
+pub loop-p-preserved : goal.loop-p-preserved
+loop-p-preserved c = more-built _ entries c.loop-p.invariant c.loop-p-test.true _ (c.entry_of-v.ensures ∙ ap (entry_of _ _ _ _ _ _) c.mark_at.ensures)
+
+pub returns : goal.returns
+unfolding table_of
+returns c = all-built _ entries c.loop-p.invariant c.loop-p-test.false
