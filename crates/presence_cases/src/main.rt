@@ -145,7 +145,7 @@ fn step(
         return reset(rt, rows, w, held);
     }
     if part[2] == DAMAGE {
-        return damaged(held);
+        return Ok(damaged(held));
     }
     let times = num::steps::u16_at(part, 0) as usize;
     fed(rt, rows, w, config, held, part, times)

@@ -2,7 +2,7 @@
 use native.Mathlib.Omega.{arith}
 use borrow.Author.Rules.{rules}
 use lib.ListN.{length-set}
-use Rattle.lines.proofs.Digits.{Spelling, spelling-start, spelling-done, spelling-next, spelling-full}
+use Rattle.lines.proofs.Digits.{spelling-start, spelling-done, spelling-next, spelling-full}
 use Rattle.lines.proofs.text.digits.Goals as goal
 
 pub loop-i-init : goal.loop-i-init

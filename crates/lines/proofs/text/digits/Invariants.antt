@@ -1,8 +1,5 @@
 -- `lines::text::digits` meets its contract. The invariant is `Spelling`; the measure is the room that is left. Assumes nothing.
-use native.Mathlib.Omega.{arith}
-use borrow.Author.Rules.{rules}
-use lib.ListN.{length-set}
-use Rattle.lines.proofs.Digits.{Spelling, spelling-start, spelling-done, spelling-next, spelling-full}
+use Rattle.lines.proofs.Digits.{Spelling}
 use Rattle.lines.proofs.text.digits.Given as goal
 
 abbrev pub invariant-loop-i : goal.invariant-loop-i

@@ -1,5 +1,4 @@
 -- `lines::text::put_rate` meets its contract. Assumes nothing.
-use borrow.Author.Rules.{rules}
 use native.Mathlib.Omega.{arith}
 use Rattle.lines.specs.Lines.{number, dash_word, tilde_word, rate_text}
 use Rattle.lines.proofs.Choice.{for-zero, for-one, for-other}

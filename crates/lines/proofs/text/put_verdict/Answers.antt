@@ -1,5 +1,4 @@
 -- `lines::text::put_verdict` meets its contract. Assumes nothing.
-use borrow.Author.Rules.{rules}
 use native.Mathlib.Omega.{arith}
 use Rattle.lines.specs.Lines.{warming_word, absent_word, present_word, verdict_text}
 use Rattle.lines.proofs.Choice.{for-zero, for-one, for-other}

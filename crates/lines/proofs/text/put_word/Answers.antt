@@ -1,6 +1,5 @@
 -- `lines::text::put_word` meets its contract. Assumes nothing.
 use mathlib.Core.Path.{refl}
-use borrow.Author.Rules.{rules}
 use Rattle.num.proofs.Parts.{front-put}
 use Rattle.lines.proofs.text.put_word.Goals as goal
 
