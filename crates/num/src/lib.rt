@@ -66,10 +66,12 @@ pub fn wrap_i16(x: i64) -> i16
     ensures { result ≡ wrap16 x }
 {
     let r = x % 65536;
-    if r < -32768 {
+    let low = -32768;
+    let high = 32767;
+    if r < low {
         return (r + 65536) as i16;
     }
-    if 32767 < r {
+    if high < r {
         return (r - 65536) as i16;
     }
     r as i16

@@ -24,44 +24,44 @@ nonzero_rem-r c = let hx = c.ranges.x in (omega arith, simp to_z-of_z (quot_fits
 pub overflow_add-result : goal.overflow_add-result
 overflow_add-result c =
     let x = c.args.x in let hx = c.ranges.x in let hr = rem-fits (pos 65536) hx in
-    simp to_z-of_z (wide x (wrap16-up x (simp to_z-of_z at c.if-r-ltminus32768.true)))
+    simp to_z-of_z (wide x (wrap16-up x (simp to_z-of_z at c.if-r-low.true)))
 
 pub overflow_cast-result : goal.overflow_cast-result
 overflow_cast-result c =
     let x = c.args.x in let hx = c.ranges.x in let hr = rem-fits (pos 65536) hx in
-    let e = wrap16-up x (simp to_z-of_z at c.if-r-ltminus32768.true) in let hw = wide x e in
+    let e = wrap16-up x (simp to_z-of_z at c.if-r-low.true) in let hw = wide x e in
     simp to_z-of_z (narrow x e)
 
-pub returns-then-r-ltminus32768 : goal.returns-then-r-ltminus32768
-returns-then-r-ltminus32768 c =
+pub returns-then-r-low : goal.returns-then-r-low
+returns-then-r-low c =
     let x = c.args.x in let hx = c.ranges.x in let hr = rem-fits (pos 65536) hx in
-    let e = wrap16-up x (simp to_z-of_z at c.if-r-ltminus32768.true) in let hw = wide x e in let hn = narrow x e in
+    let e = wrap16-up x (simp to_z-of_z at c.if-r-low.true) in let hw = wide x e in let hn = narrow x e in
     simp to_z-of_z (sym e)
 
 pub overflow_sub-result : goal.overflow_sub-result
 overflow_sub-result c =
     let x = c.args.x in let hx = c.ranges.x in let hr = rem-fits (pos 65536) hx in
-    simp to_z-of_z (wide x (wrap16-down x (simp to_z-of_z at c.if-r-gt32767.true)))
+    simp to_z-of_z (wide x (wrap16-down x (simp to_z-of_z at c.if-high-r.true)))
 
-pub overflow_cast-result-then-r-gt32767 : goal.overflow_cast-result-then-r-gt32767
-overflow_cast-result-then-r-gt32767 c =
+pub overflow_cast-result-then-high-r : goal.overflow_cast-result-then-high-r
+overflow_cast-result-then-high-r c =
     let x = c.args.x in let hx = c.ranges.x in let hr = rem-fits (pos 65536) hx in
-    let e = wrap16-down x (simp to_z-of_z at c.if-r-gt32767.true) in let hw = wide x e in
+    let e = wrap16-down x (simp to_z-of_z at c.if-high-r.true) in let hw = wide x e in
     simp to_z-of_z (narrow x e)
 
-pub returns-then-r-gt32767 : goal.returns-then-r-gt32767
-returns-then-r-gt32767 c =
+pub returns-then-high-r : goal.returns-then-high-r
+returns-then-high-r c =
     let x = c.args.x in let hx = c.ranges.x in let hr = rem-fits (pos 65536) hx in
-    let e = wrap16-down x (simp to_z-of_z at c.if-r-gt32767.true) in let hw = wide x e in let hn = narrow x e in
+    let e = wrap16-down x (simp to_z-of_z at c.if-high-r.true) in let hw = wide x e in let hn = narrow x e in
     simp to_z-of_z (sym e)
 
 pub overflow_cast-result-2 : goal.overflow_cast-result-2
 overflow_cast-result-2 c =
     let x = c.args.x in let hx = c.ranges.x in let hr = rem-fits (pos 65536) hx in
-    simp to_z-of_z (narrow x (wrap16-same x (simp to_z-of_z at c.if-r-ltminus32768.false) (simp to_z-of_z at c.if-r-gt32767.false)))
+    simp to_z-of_z (narrow x (wrap16-same x (simp to_z-of_z at c.if-r-low.false) (simp to_z-of_z at c.if-high-r.false)))
 
 pub returns : goal.returns
 returns c =
     let x = c.args.x in let hx = c.ranges.x in let hr = rem-fits (pos 65536) hx in
-    let e = wrap16-same x (simp to_z-of_z at c.if-r-ltminus32768.false) (simp to_z-of_z at c.if-r-gt32767.false) in let hn = narrow x e in
+    let e = wrap16-same x (simp to_z-of_z at c.if-r-low.false) (simp to_z-of_z at c.if-high-r.false) in let hn = narrow x e in
     simp to_z-of_z (sym e)

@@ -1,0 +1,16 @@
+-- `room_memory::arrays::put_u64s` meets its contract. Assumes nothing.
+use mathlib.Core.Path.{◌≡◌, sym, subst, ◌∙◌}
+use mathlib.Core.List.{List}
+use Prim.Native.Nat.{ℕ, ◌+◌, ◌-◌, ◌*◌, ◌≤◌}
+use native.Mathlib.Omega.{arith}
+use lib.ListN.{length}
+use borrow.Author.Rules.{rules}
+use Rattle.num.proofs.Arrays.{Writing, none_written, written, all-written, written-long}
+use Rattle.window.specs.Window.{columns}
+use Rattle.room_memory.proofs.arrays.put_u64s.Given as goal
+
+abbrev pub invariant-loop-i : goal.invariant-loop-i
+invariant-loop-i l = Writing 8 l.at l.xs l.initial.m l.m l.i
+
+abbrev pub decreases-loop-i : goal.decreases-loop-i
+decreases-loop-i l = columns - l.i

@@ -1,0 +1,6 @@
+-- `room_memory::fields::baseline_bytes` meets its contract. Assumes nothing.
+use borrow.Author.Rules.{rules}
+use Rattle.room_memory.proofs.fields.baseline_bytes.Goals as goal
+
+pub returns : goal.returns
+returns c = rw c.u64_bytes-t.ensures

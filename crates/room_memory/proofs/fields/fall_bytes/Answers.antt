@@ -1,0 +1,6 @@
+-- `room_memory::fields::fall_bytes` meets its contract. Assumes nothing.
+use borrow.Author.Rules.{rules}
+use Rattle.room_memory.proofs.fields.fall_bytes.Goals as goal
+
+pub returns : goal.returns
+returns c = rw (c.u16_bytes-p.ensures, c.u64_bytes-a.ensures, c.u64_bytes-b.ensures)
