@@ -12,7 +12,6 @@ use Rattle.estimator.specs.State as rhythm
 use Rattle.fingerprint.specs.Baseline as fingerprint
 use Rattle.fall_words.specs.Stored as fall
 use Rattle.room_memory.specs.declared.RoomState.{RoomState}
-use Rattle.room_sensing.specs.Settings.{in_range}
 use Rattle.room_sensing.specs.declared.settings.Settings.{Settings}
 use Rattle.room_state.specs.Rings.{Rings}
 use Rattle.room_state.specs.State.{max_tag, GoodState, windows_good, numbers_good, is_good}

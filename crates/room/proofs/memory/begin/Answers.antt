@@ -7,7 +7,6 @@ use lib.ListN.{length, drop, replicate}
 use Rattle.room_sensing.specs.Settings.{settings_of}
 use Rattle.room_sensing.proofs.Judged.{legal-long, legal-ranges, ranged}
 use Rattle.room_state.proofs.New.{begun-memory, begin-long, fresh-small}
-use borrow.Author.Rules.{rules}
 use Rattle.room.proofs.memory.begin.Goals as goal
 
 pub settings_of-s-requires : goal.settings_of-s-requires

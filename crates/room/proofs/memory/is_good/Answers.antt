@@ -6,7 +6,6 @@ use Rattle.num.proofs.Parts.{part-lent}
 use Rattle.room_memory.specs.Header.{header_len}
 use Rattle.room_state.specs.Rings.{rings_of}
 use Rattle.room_state.specs.State.{is_good}
-use borrow.Author.Rules.{rules}
 use Rattle.room.proofs.memory.is_good.Goals as goal
 
 pub returns-then-flags_valid : goal.returns-then-flags_valid

@@ -1,7 +1,6 @@
 -- `room::memory::is_sized` meets its contract. Assumes nothing.
 use mathlib.Core.Path.{sym, ◌∙◌}
 use Rattle.room_state.proofs.Stored.{not-sized}
-use borrow.Author.Rules.{rules}
 use Rattle.room.proofs.memory.is_sized.Goals as goal
 
 pub returns-then-memory-lt-HEADER_LEN : goal.returns-then-memory-lt-HEADER_LEN

@@ -8,7 +8,6 @@ use Rattle.room_memory.specs.declared.RoomState.{RoomState}
 use Rattle.room.specs.Steps.{kept_for}
 use Rattle.room.proofs.Kept.{kept-baseline}
 use Rattle.room.proofs.Sampled.{refused-so, calibrated-so, full-so}
-use borrow.Author.Rules.{rules}
 use Rattle.room.proofs.sample.calibrate.Goals as goal
 
 -- the state kept is that for the sample's tag

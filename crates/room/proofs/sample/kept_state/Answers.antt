@@ -1,6 +1,5 @@
 -- `room::sample::kept_state` meets its contract. Assumes nothing.
 use mathlib.Core.Path.{sym, ◌∙◌}
-use borrow.Author.Rules.{rules}
 use Rattle.room.proofs.sample.kept_state.Goals as goal
 
 pub returns-then-is_boundary : goal.returns-then-is_boundary

@@ -10,7 +10,6 @@ use Rattle.room_state.specs.State.{GoodState}
 use Rattle.room.specs.Steps.{kept_for}
 use Rattle.room.proofs.Kept.{kept-good}
 use Rattle.room.proofs.Sampled.{refused-so, watched-so}
-use borrow.Author.Rules.{rules}
 use Rattle.room.proofs.sample.watch.Goals as goal
 
 -- the state kept is that for the sample's tag

@@ -1,15 +1,14 @@
 -- `room_memory::arrays::i32s_at` meets its contract. Assumes nothing.
 use mathlib.Core.Path.{◌≡◌, sym, ap, ◌∙◌}
 use mathlib.Core.List.{List, map}
-use Prim.Native.Nat.{ℕ, ◌-◌}
-use borrow.Author.Rules.{rules}
+use Prim.Native.Nat.{ℕ}
 use lib.IntN.{ℤ, pos}
 use lib.ListN.{length, get_or, drop, replicate, length-map, length-replicate, get_or-map}
 use mir.Syntax.{w32}
 use mir.Facts.{to_z-of_z}
 use Rattle.num.specs.Words.{words_in}
 use Rattle.num.specs.Wrap.{signed32}
-use Rattle.num.proofs.Arrays.{Copying, none-copied, copied, all-copied, length-words_in, word_in}
+use Rattle.num.proofs.Arrays.{none-copied, copied, all-copied, length-words_in, word_in}
 use Rattle.window.specs.Window.{columns}
 use Rattle.room_memory.proofs.arrays.i32s_at.Goals as goal
 

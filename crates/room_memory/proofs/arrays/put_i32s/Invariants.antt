@@ -1,18 +1,8 @@
 -- `room_memory::arrays::put_i32s` meets its contract. Assumes nothing.
-use mathlib.Core.Path.{◌≡◌, sym, ap, subst, ◌∙◌}
-use mathlib.Core.List.{List, map}
-use Prim.Native.Nat.{ℕ, ◌+◌, ◌-◌, ◌*◌, ◌≤◌}
-use native.Mathlib.Omega.{arith}
-use borrow.Author.Rules.{sfits_of}
-use lib.IntN.{pos}
-use mir.Syntax.{w32}
-use mir.Val.{SFits}
-use mir.Facts.{to_z-of_z}
+use mathlib.Core.List.{map}
+use Prim.Native.Nat.{◌-◌}
 use Rattle.num.specs.Wrap.{bits32}
-use Rattle.num.specs.Words.{put_le}
-use lib.ListN.{length, get_or, length-map, get_or-map}
-use borrow.Author.Rules.{rules}
-use Rattle.num.proofs.Arrays.{Writing, none_written, written, all-written, written-long}
+use Rattle.num.proofs.Arrays.{Writing}
 use Rattle.window.specs.Window.{columns}
 use Rattle.room_memory.proofs.arrays.put_i32s.Given as goal
 

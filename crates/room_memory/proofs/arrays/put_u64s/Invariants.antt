@@ -1,11 +1,6 @@
 -- `room_memory::arrays::put_u64s` meets its contract. Assumes nothing.
-use mathlib.Core.Path.{◌≡◌, sym, subst, ◌∙◌}
-use mathlib.Core.List.{List}
-use Prim.Native.Nat.{ℕ, ◌+◌, ◌-◌, ◌*◌, ◌≤◌}
-use native.Mathlib.Omega.{arith}
-use lib.ListN.{length}
-use borrow.Author.Rules.{rules}
-use Rattle.num.proofs.Arrays.{Writing, none_written, written, all-written, written-long}
+use Prim.Native.Nat.{◌-◌}
+use Rattle.num.proofs.Arrays.{Writing}
 use Rattle.window.specs.Window.{columns}
 use Rattle.room_memory.proofs.arrays.put_u64s.Given as goal
 

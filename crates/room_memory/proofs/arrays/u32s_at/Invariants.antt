@@ -1,10 +1,8 @@
 -- `room_memory::arrays::u32s_at` meets its contract. Assumes nothing.
-use mathlib.Core.Path.{◌∙◌}
-use Prim.Native.Nat.{ℕ, ◌-◌}
-use borrow.Author.Rules.{rules}
-use lib.ListN.{drop, replicate, length-replicate}
+use Prim.Native.Nat.{◌-◌}
+use lib.ListN.{drop}
 use Rattle.num.specs.Words.{words_in}
-use Rattle.num.proofs.Arrays.{Copying, none-copied, copied, all-copied, length-words_in, word_in}
+use Rattle.num.proofs.Arrays.{Copying}
 use Rattle.window.specs.Window.{columns}
 use Rattle.room_memory.proofs.arrays.u32s_at.Given as goal
 

@@ -1,5 +1,4 @@
 -- `room_memory::fields::baseline_bytes` meets its contract. Assumes nothing.
-use borrow.Author.Rules.{rules}
 use Rattle.room_memory.proofs.fields.baseline_bytes.Goals as goal
 
 pub returns : goal.returns

@@ -1,5 +1,4 @@
 -- `room_memory::fields::baseline_in` meets its contract. Assumes nothing.
-use borrow.Author.Rules.{rules}
 use Rattle.room_memory.proofs.fields.baseline_in.Goals as goal
 
 pub returns : goal.returns

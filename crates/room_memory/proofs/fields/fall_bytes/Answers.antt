@@ -1,5 +1,4 @@
 -- `room_memory::fields::fall_bytes` meets its contract. Assumes nothing.
-use borrow.Author.Rules.{rules}
 use Rattle.room_memory.proofs.fields.fall_bytes.Goals as goal
 
 pub returns : goal.returns

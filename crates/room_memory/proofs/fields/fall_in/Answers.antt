@@ -1,5 +1,4 @@
 -- `room_memory::fields::fall_in` meets its contract. Assumes nothing.
-use borrow.Author.Rules.{rules}
 use Rattle.room_memory.proofs.fields.fall_in.Goals as goal
 
 pub returns : goal.returns

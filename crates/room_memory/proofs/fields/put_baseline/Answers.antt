@@ -1,5 +1,4 @@
 -- `room_memory::fields::put_baseline` meets its contract. Assumes nothing.
-use borrow.Author.Rules.{rules}
 use Rattle.num.proofs.Parts.{front-put}
 use Rattle.room_memory.specs.Fields.{baseline_bytes}
 use Rattle.room_memory.proofs.fields.put_baseline.Goals as goal

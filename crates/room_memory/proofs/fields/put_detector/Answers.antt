@@ -1,5 +1,4 @@
 -- `room_memory::fields::put_detector` meets its contract. Assumes nothing.
-use borrow.Author.Rules.{rules}
 use Rattle.num.proofs.Parts.{front-put}
 use Rattle.room_memory.specs.Fields.{detector_bytes}
 use Rattle.room_memory.proofs.fields.put_detector.Goals as goal

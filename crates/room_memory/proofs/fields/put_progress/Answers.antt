@@ -1,5 +1,4 @@
 -- `room_memory::fields::put_progress` meets its contract. Assumes nothing.
-use borrow.Author.Rules.{rules}
 use Rattle.num.proofs.Parts.{front-put}
 use Rattle.room_memory.specs.Fields.{progress_bytes}
 use Rattle.room_memory.proofs.fields.put_progress.Goals as goal

@@ -1,6 +1,5 @@
 -- `room_memory::steps::load` meets its contract. Assumes nothing.
 use native.Mathlib.Omega.{arith}
-use borrow.Author.Rules.{rules}
 use Rattle.room_memory.specs.Header.{state_at}
 use Rattle.room_memory.proofs.steps.load.Goals as goal
 

@@ -3,7 +3,6 @@ use mathlib.Core.Path.{◌≡◌, refl, ◌∙◌}
 use mathlib.Core.List.{List, [], ◌∷◌, ◌++◌, append_assoc}
 use Prim.Native.Nat.{ℕ}
 use native.Mathlib.Omega.{arith}
-use borrow.Author.Rules.{rules}
 use lib.ListN.{take, drop}
 use Rattle.num.proofs.Parts.{front-start, front-next}
 use Rattle.room_memory.specs.Fields.{detector_len, detector_bytes, progress_len, progress_bytes, baseline_len, baseline_bytes, fall_len, fall_bytes}

@@ -1,6 +1,5 @@
 -- `room::answer::learnt_bytes` meets its contract. Assumes nothing.
 use Rattle.room_sensing.specs.Answers.{learnt_bytes}
-use borrow.Author.Rules.{rules}
 use Rattle.room_sensing.proofs.answer.learnt_bytes.Goals as goal
 
 pub returns : goal.returns

@@ -1,6 +1,5 @@
 -- `room::answer::refused_bytes` meets its contract. Assumes nothing.
 use Rattle.room_sensing.specs.Answers.{refused_bytes}
-use borrow.Author.Rules.{rules}
 use Rattle.room_sensing.proofs.answer.refused_bytes.Goals as goal
 
 pub returns : goal.returns

@@ -1,6 +1,5 @@
 -- `room::answer::watched_bytes` meets its contract. Assumes nothing.
 use Rattle.room_sensing.specs.Answers.{watched_bytes}
-use borrow.Author.Rules.{rules}
 use Rattle.room_sensing.proofs.answer.watched_bytes.Goals as goal
 
 pub returns : goal.returns

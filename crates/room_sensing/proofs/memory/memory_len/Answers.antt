@@ -1,6 +1,5 @@
 -- `room::memory::memory_len` meets its contract. Assumes nothing.
 use Rattle.room_sensing.specs.Settings.{memory_size}
-use borrow.Author.Rules.{rules}
 use Rattle.room_sensing.proofs.memory.memory_len.Goals as goal
 
 pub returns : goal.returns

@@ -1,7 +1,6 @@
 -- `room::sample::bytes_refusal` meets its contract. Assumes nothing.
 use mathlib.Core.Path.{sym, ◌∙◌}
 use Rattle.room_sensing.proofs.Judged.{no-sample, a-sample}
-use borrow.Author.Rules.{rules}
 use Rattle.room_sensing.proofs.sample.bytes_refusal.Goals as goal
 
 pub returns-in-Refused : goal.returns-in-Refused

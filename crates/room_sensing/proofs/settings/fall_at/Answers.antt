@@ -1,5 +1,4 @@
 -- `room::settings::fall_at` meets its contract. Assumes nothing.
-use borrow.Author.Rules.{rules}
 use Rattle.room_sensing.proofs.settings.fall_at.Goals as goal
 
 pub returns : goal.returns

@@ -1,7 +1,6 @@
 -- `room::settings::is_in_range` meets its contract: each test in its turn. Assumes nothing.
 use mathlib.Core.Path.{sym, ◌∙◌}
 use Rattle.room_sensing.specs.Settings.{in_range}
-use borrow.Author.Rules.{rules}
 use Rattle.room_sensing.proofs.settings.is_in_range.Goals as goal
 
 pub returns-then-is_legal : goal.returns-then-is_legal

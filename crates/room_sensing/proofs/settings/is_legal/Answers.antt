@@ -4,7 +4,6 @@ use borrow.Author.Tests.{eq-eqb, ne_eqb}
 use lib.ListN.{length}
 use Rattle.room_memory.specs.Header.{settings_len}
 use Rattle.room_sensing.specs.Settings.{in_range, legal}
-use borrow.Author.Rules.{rules}
 use Rattle.room_sensing.proofs.settings.is_legal.Goals as goal
 
 pub returns-then-bytes-ne-SETTINGS_LEN : goal.returns-then-bytes-ne-SETTINGS_LEN

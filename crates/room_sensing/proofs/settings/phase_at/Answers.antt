@@ -1,5 +1,4 @@
 -- `room::settings::phase_at` meets its contract. Assumes nothing.
-use borrow.Author.Rules.{rules}
 use Rattle.room_sensing.proofs.settings.phase_at.Goals as goal
 
 pub returns : goal.returns

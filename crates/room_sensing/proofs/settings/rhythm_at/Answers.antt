@@ -1,5 +1,4 @@
 -- `room::settings::rhythm_at` meets its contract. Assumes nothing.
-use borrow.Author.Rules.{rules}
 use Rattle.room_sensing.proofs.settings.rhythm_at.Goals as goal
 
 pub returns : goal.returns

@@ -1,6 +1,5 @@
 -- `room::settings::settings_of` meets its contract. Assumes nothing.
 use Rattle.room_sensing.specs.Settings.{settings_of}
-use borrow.Author.Rules.{rules}
 use Rattle.room_sensing.proofs.settings.settings_of.Goals as goal
 
 pub returns : goal.returns

@@ -1,5 +1,4 @@
 -- `room_state::steps::emptied` meets its contract. Assumes nothing.
-use borrow.Author.Rules.{rules}
 use Rattle.room_state.proofs.steps.emptied.Goals as goal
 
 pub returns : goal.returns

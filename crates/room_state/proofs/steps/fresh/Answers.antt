@@ -1,5 +1,4 @@
 -- `room_state::steps::fresh` meets its contract. Assumes nothing.
-use borrow.Author.Rules.{rules}
 use Rattle.room_state.proofs.steps.fresh.Goals as goal
 
 pub returns : goal.returns

@@ -1,7 +1,6 @@
 -- `room_state::steps::is_good` meets its contract. Assumes nothing.
 use mathlib.Core.Path.{sym, ◌∙◌}
 use borrow.Author.Tests.{le-leb, lt-leb}
-use borrow.Author.Rules.{rules}
 use Rattle.room_state.proofs.steps.is_good.Goals as goal
 
 pub returns-then-s-gt-MAX_TAG : goal.returns-then-s-gt-MAX_TAG

@@ -1,6 +1,5 @@
 -- `room_state::steps::numbers_good` meets its contract. Assumes nothing.
 use mathlib.Core.Path.{sym, ◌∙◌}
-use borrow.Author.Rules.{rules}
 use Rattle.room_state.proofs.steps.numbers_good.Goals as goal
 
 pub returns-then-is_good : goal.returns-then-is_good

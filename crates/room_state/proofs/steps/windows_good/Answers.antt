@@ -10,7 +10,6 @@ use Rattle.detector.specs.Detector.{is_valid}
 use Rattle.presence.specs.Presence.{presence_kind}
 use Rattle.phase_detector.specs.Phase.{phase_kind}
 use Rattle.room_state.specs.Rings.{part_at}
-use borrow.Author.Rules.{rules}
 use Rattle.room_state.proofs.steps.windows_good.Goals as goal
 
 -- the parts that are lent are the first two rings

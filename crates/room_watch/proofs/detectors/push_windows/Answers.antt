@@ -1,7 +1,6 @@
 -- `room_watch::detectors::push_windows` meets its contract. Assumes nothing.
 use mathlib.Core.Path.{◌∙◌}
 use Rattle.room_watch.proofs.Both.{phase-valid, windows}
-use borrow.Author.Rules.{rules}
 use Rattle.room_watch.proofs.detectors.push_windows.Goals as goal
 
 pub push_phase-q-requires : goal.push_phase-q-requires

@@ -1,7 +1,6 @@
 -- `room_watch::falls::step_fall` meets its contract. Assumes nothing.
 use mathlib.Core.Path.{sym, ◌∙◌}
 use Rattle.room_watch.proofs.Machine.{waits, steps}
-use borrow.Author.Rules.{rules}
 use Rattle.room_watch.proofs.falls.step_fall.Goals as goal
 
 pub returns-then-is_warming : goal.returns-then-is_warming

@@ -3,7 +3,6 @@ use Prim.Native.Nat.{◌+◌, ◌-◌, ◌*◌}
 use native.Mathlib.Omega.{arith}
 use Rattle.estimator.specs.State.{ring_length}
 use Rattle.room_watch.proofs.Rings.{long-lent, in-breathing}
-use borrow.Author.Rules.{rules}
 use Rattle.room_watch.proofs.pushes.push_breathing.Goals as goal
 
 pub push-requires : goal.push-requires

@@ -5,7 +5,6 @@ use Rattle.window.specs.Window.{columns}
 use Rattle.presence.specs.Presence.{presence_kind}
 use Rattle.estimator.specs.State.{ring_length}
 use Rattle.room_watch.proofs.Rings.{valid-lent, in-presence}
-use borrow.Author.Rules.{rules}
 use Rattle.room_watch.proofs.pushes.push_presence.Goals as goal
 
 pub push-requires : goal.push-requires

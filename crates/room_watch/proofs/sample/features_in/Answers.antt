@@ -2,7 +2,6 @@
 use Rattle.csi.proofs.Shape.{features-most}
 use Rattle.room_sensing.specs.Sensing.{iq_of, tag_of}
 use Rattle.room_sensing.proofs.Samples.{frame-serves, iq-behind}
-use borrow.Author.Rules.{rules}
 use Rattle.room_watch.proofs.sample.features_in.Goals as goal
 
 pub features-plain-requires : goal.features-plain-requires

@@ -1,6 +1,5 @@
 -- `room_watch::sample::phases_in` meets its contract. Assumes nothing.
 use Rattle.room_sensing.proofs.Samples.{frame-serves, iq-behind}
-use borrow.Author.Rules.{rules}
 use Rattle.room_watch.proofs.sample.phases_in.Goals as goal
 
 pub phases-requires : goal.phases-requires

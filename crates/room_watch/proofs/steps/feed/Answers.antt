@@ -7,7 +7,6 @@ use Rattle.phase.specs.declared.Phases.{Phases}
 use Rattle.fingerprint.specs.Baseline.{mean_of}
 use Rattle.fingerprint.proofs.Ranges.{distance-le}
 use Rattle.room_watch.proofs.Feeding.{fed, few-amplitudes, few-angles}
-use borrow.Author.Rules.{rules}
 use Rattle.room_watch.proofs.steps.feed.Goals as goal
 
 pub push_windows-windows-requires : goal.push_windows-windows-requires

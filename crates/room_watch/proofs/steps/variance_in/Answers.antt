@@ -1,5 +1,4 @@
 -- `room_watch::steps::variance_in` meets its contract. Assumes nothing.
-use borrow.Author.Rules.{rules}
 use Rattle.room_watch.proofs.steps.variance_in.Goals as goal
 
 pub returns : goal.returns

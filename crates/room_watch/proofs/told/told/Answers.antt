@@ -1,5 +1,4 @@
 -- `room_watch::told::told` meets its contract. Assumes nothing.
-use borrow.Author.Rules.{rules}
 use Rattle.room_watch.proofs.told.told.Goals as goal
 
 pub returns : goal.returns
