@@ -1,7 +1,7 @@
 # make help            this list
-# make run             the lines of a sample stream: 5 to 12 minutes on a new clone, since they are proved first, then 2 seconds
-# make test            the gate: proofs, edits that must fail, recorded cases, tests, comparisons, pace: 45 to 85 minutes
-# make library         target/staticlib/libvolkjarp.a, all calls for C and Rust: 8 to 14 minutes on a new clone, then a second
+# make run             the lines of a sample stream: minutes on a new clone, since they are proved first, then 2 seconds
+# make test            the gate: proofs, edits that must fail, recorded cases, tests, comparisons, pace (CONTRIBUTING.md: how long)
+# make library         target/staticlib/libvolkjarp.a, all calls for C and Rust: minutes on a new clone, since they are proved first, then a second
 # make header          the library from C: layouts, every call, the example: 5 seconds beside the library
 # make gateway         the tests of the Rust crate: 10 seconds beside the library
 # make dist            dist/, what a gateway needs: library, header, the crate's sources, checksums: a second beside the library
@@ -9,7 +9,7 @@
 # make compare-full    the room at full size, beside that: 10 minutes
 # make picture         docs/swap.svg, a swap of boards drawn by the Rust crate: 10 seconds beside the library
 # make angles          docs/angles.svg, the errors of all angles over the circle: 5 seconds, with the Rust's sources
-# make census          both lists of the pair census as text: one or two minutes on a new clone, since it is proved first, then a second
+# make census          both lists of the pair census as text: minutes on a new clone, since it is proved first, then a second
 # make census-picture  docs/census.svg, the pairs of each amplitude and sector, drawn by the Rust crate: 10 seconds beside the library
 # make tables          the four angle tables, a line an entry; TABLE='atan 1024' (or 256, or sine): the entries of one alone. Times as for make census
 # make chances         how often chance makes a fall with the default settings; FRAMES=14: of so many frames alone. Times as for make census
