@@ -28,7 +28,7 @@ pub extern "C" fn room_begin(settings: &[u8], memory: &mut [u8]) -> u8
 #[unsafe(no_mangle)]
 pub extern "C" fn room_run(memory: &mut [u8], records: &[u8], answers: &mut [u8]) -> Ran
     ensures ran_so { RanSo room layout.memory memory.old records.now answers.old result memory.new answers.new }
-    ensures memory_unchanged { layout.settings_bytes memory.new ≡ layout.settings_bytes memory.old }
+    ensures settings_kept { layout.settings_bytes memory.new ≡ layout.settings_bytes memory.old }
     ensures passes { Passes (layout.settings_in memory.old) records.now (layout.unit_in memory.old) result.used (layout.unit_in memory.new) }
 {
     room::room_run(memory, records, answers)
