@@ -57,7 +57,7 @@ fn line(rt: &impl Print, r: Chances) -> io::Result<()> {
 }
 
 // A case: the settings (46 bytes), the spacing and the number of frames (8 bytes each), then the choices, two bytes each.
-fn replay(rt: &(impl Input + Print), bytes: &[u8; LONGEST], len: usize) -> io::Result<()> {
+fn replay(rt: &impl Print, bytes: &[u8; LONGEST], len: usize) -> io::Result<()> {
     if len < HEAD {
         return Ok(());
     }
