@@ -1,30 +1,23 @@
 -- `presence::new` meets its contract, by the laws of a new detector (`new-window`, `new-length`, `new-begun` of detector). Assumes nothing.
-use mathlib.Core.Path.{◌≡◌, sym, ◌∙◌}
-use mathlib.Core.Bool.{Bool, true}
-use Prim.Native.Nat.{ℕ}
+use mathlib.Core.Path.{sym, ◌∙◌}
 use native.Mathlib.Omega.{arith}
 use Rattle.window.specs.Window.{columns}
-use Rattle.detector.specs.Calls.{is_window}
-use Rattle.detector.proofs.Calls.{Sized, sized, new-window, new-length, new-begun}
+use Rattle.detector.proofs.Calls.{sized, new-window, new-length, new-begun}
 use Rattle.presence.specs.Presence.{presence_kind}
 use Rattle.presence.proofs.new.Goals as goal
 
--- the window has a size that may be named
-size : (w : ℕ) (tested : Bool) → tested ≡ is_window w → tested ≡ true → Sized w
-size w tested e h = sized w (sym e ∙ h)
-
 pub overflow_mul-w : goal.overflow_mul-w
-overflow_mul-w c = omega (arith, (size c.args.w _ c.is_window.ensures c.if-is_window.true).small)
+overflow_mul-w c = omega (arith, (sized c.args.w (sym c.is_window.ensures ∙ c.if-is_window.true)).small)
 
 pub overflow_mul-w-then-is_window : goal.overflow_mul-w-then-is_window
-overflow_mul-w-then-is_window c = omega (arith, (size c.args.w _ c.is_window.ensures c.if-is_window.true).small)
+overflow_mul-w-then-is_window c = omega (arith, (sized c.args.w (sym c.is_window.ensures ∙ c.if-is_window.true)).small)
 
 pub returns-then-rows-w : goal.returns-then-rows-w
 returns-then-rows-w c =
     rw (c.new.ensures, c.no_sums.ensures) (new-length presence_kind c.args.w columns c.args.rows.now (sym c.is_window.ensures ∙ c.if-is_window.true) c.if-rows-w.true)
 
 pub begin-requires : goal.begin-requires
-begin-requires c = let s = size c.args.w _ c.is_window.ensures c.if-is_window.true in (s.some, s.small, c.if-rows-w.false)
+begin-requires c = let s = sized c.args.w (sym c.is_window.ensures ∙ c.if-is_window.true) in (s.some, s.small, c.if-rows-w.false)
 
 pub returns-then-is_window : goal.returns-then-is_window
 returns-then-is_window c =

@@ -1,18 +1,9 @@
 -- `room::sample::calibrate` meets its contract. Assumes nothing.
-use mathlib.Core.Path.{◌≡◌, sym, ap, ◌∙◌}
-use Prim.Native.Nat.{ℕ}
+use mathlib.Core.Path.{sym, ◌∙◌}
 use Rattle.unit.specs.Records.{calibrated}
-use mathlib.Core.List.{List}
-use Rattle.room_sensing.specs.Sensing.{tag_of}
-use Rattle.room_memory.specs.declared.RoomState.{RoomState}
-use Rattle.room.specs.Steps.{kept_for}
-use Rattle.room.proofs.Kept.{kept-baseline}
+use Rattle.room.proofs.Kept.{kept-is, kept-baseline}
 use Rattle.room.proofs.Sampled.{refused-so, calibrated-so, full-so}
 use Rattle.room.proofs.sample.calibrate.Goals as goal
-
--- the state kept is that for the sample's tag
-kept-is : (s kept : RoomState) (tag : ℕ) (body : List ℕ) → kept ≡ kept_for s tag → tag ≡ tag_of body → kept ≡ kept_for s (tag_of body)
-kept-is s kept tag body e h = e ∙ ap (λ (t : ℕ). kept_for s t) h
 
 pub returns-then-number-ne0 : goal.returns-then-number-ne0
 returns-then-number-ne0 c = λ σ rows e G.
@@ -20,12 +11,12 @@ returns-then-number-ne0 c = λ σ rows e G.
 
 pub calibrate-baseline-requires : goal.calibrate-baseline-requires
 calibrate-baseline-requires c =
-    let k = kept-is c.args.s c.kept_state-kept.result c.tag_in.result c.args.body.now c.kept_state-kept.ensures c.tag_in.ensures in
+    let k = kept-is c.args.s c.args.body.now c.kept_state-kept.ensures c.tag_in.ensures in
     (rw k (kept-baseline c.args.s _ c.requires.0), c.if-before-lt-MAX_FRAMES.true)
 
 pub returns-then-before-lt-MAX_FRAMES : goal.returns-then-before-lt-MAX_FRAMES
 returns-then-before-lt-MAX_FRAMES c = λ σ rows e G.
-    let k = kept-is c.args.s c.kept_state-kept.result c.tag_in.result c.args.body.now c.kept_state-kept.ensures c.tag_in.ensures in
+    let k = kept-is c.args.s c.args.body.now c.kept_state-kept.ensures c.tag_in.ensures in
     let fine = sym c.bytes_refusal-number.ensures ∙ c.if-number-ne0.false in
     rw (c.mean.ensures, c.with_baseline.ensures, k)
     (calibrated-so σ c.args.s rows c.args.body.now G e fine c.calibrate-baseline.result (rw (sym k) c.if-before-lt-MAX_FRAMES.true)
@@ -33,6 +24,6 @@ returns-then-before-lt-MAX_FRAMES c = λ σ rows e G.
 
 pub returns : goal.returns
 returns c = λ σ rows e G.
-    let k = kept-is c.args.s c.kept_state-kept.result c.tag_in.result c.args.body.now c.kept_state-kept.ensures c.tag_in.ensures in
+    let k = kept-is c.args.s c.args.body.now c.kept_state-kept.ensures c.tag_in.ensures in
     let fine = sym c.bytes_refusal-number.ensures ∙ c.if-number-ne0.false in
     rw c.refused-2.ensures (full-so σ c.args.s rows c.args.body.now G e fine (rw (sym k) c.if-before-lt-MAX_FRAMES.false))

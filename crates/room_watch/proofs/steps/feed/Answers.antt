@@ -1,21 +1,27 @@
 -- `room_watch::steps::feed` meets its contract. Assumes nothing.
-use mathlib.Core.Path.{sym, subst, ◌∙◌}
+use mathlib.Core.Path.{◌≡◌, sym, subst, ◌∙◌}
+use mathlib.Core.List.{List}
 use Prim.Native.Nat.{ℕ, ◌≤◌}
 use Rattle.window.specs.Window.{columns}
 use Rattle.csi.specs.declared.Features.{Features}
 use Rattle.phase.specs.declared.Phases.{Phases}
 use Rattle.fingerprint.specs.Baseline.{mean_of}
+use Rattle.room_sensing.specs.Sensing.{bytes_refusal, features_in}
 use Rattle.fingerprint.proofs.Ranges.{distance-le}
 use Rattle.room_watch.proofs.Feeding.{fed, few-amplitudes, few-angles}
 use Rattle.room_watch.proofs.steps.feed.Goals as goal
 
+-- a row has room for the features of a sample that is not refused
+few : (body : List ℕ) {f : Features} → f ≡ features_in body → bytes_refusal body ≡ 0 → f.count ≤ columns
+few body e ok = subst (λ (x : Features). x.count ≤ columns) (sym e) (few-amplitudes body ok)
+
 pub push_windows-windows-requires : goal.push_windows-windows-requires
 push_windows-windows-requires c =
-    record { valid = c.requires.settings_value.2.presence; valid_2 = c.requires.settings_value.2.phase; rows_len = (c.requires.settings_value.1, subst (λ (x : Features). x.count ≤ columns) (sym c.features_in-features.ensures) (few-amplitudes c.args.body.now c.requires.body_value.0), subst (λ (x : Phases). x.count ≤ columns) (sym c.phases_in-phases.ensures) (few-angles c.args.body.now c.requires.body_value.0)) }
+    record { valid = c.requires.settings_value.2.presence; valid_2 = c.requires.settings_value.2.phase; rows_len = (c.requires.settings_value.1, few c.args.body.now c.features_in-features.ensures c.requires.body_value.0, subst (λ (x : Phases). x.count ≤ columns) (sym c.phases_in-phases.ensures) (few-angles c.args.body.now c.requires.body_value.0)) }
 
 pub push_rhythms-rhythms-requires : goal.push_rhythms-rhythms-requires
 push_rhythms-rhythms-requires c =
-    record { settings_value = (c.requires.settings_value.0, c.push_windows-windows.ensures.long ∙ c.requires.settings_value.1, subst (λ (x : Features). x.count ≤ columns) (sym c.features_in-features.ensures) (few-amplitudes c.args.body.now c.requires.body_value.0)); breathing_totals_value = c.requires.settings_value.2.breathing; heart_totals_value = c.requires.settings_value.2.heart }
+    record { settings_value = (c.requires.settings_value.0, c.push_windows-windows.ensures.long ∙ c.requires.settings_value.1, few c.args.body.now c.features_in-features.ensures c.requires.body_value.0); breathing_totals_value = c.requires.settings_value.2.breathing; heart_totals_value = c.requires.settings_value.2.heart }
 
 pub step_fall-fallen-requires : goal.step_fall-fallen-requires
 step_fall-fallen-requires c =
