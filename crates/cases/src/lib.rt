@@ -1,72 +1,82 @@
-// What the programs that replay recorded cases share: a case read from standard input, and the words and numbers of a line.
+// What the programs that replay recorded cases share: cases read from standard input, a list printed, and a check sum.
 #![tactic(auto)]
+
+ghost use Rattle.std.specs.Prelude.{◌<◌, ◌^◌};
 
 use std::io;
 use std::io::{ErrorKind, Input, Read};
 
-// The bytes of one case that `next` read to the front of its buffer, or the end of the cases.
-#[derive(Clone, Copy)]
-pub enum Case {
-    Bytes(usize),
-    End,
-}
-
 // Fills `buf` from standard input; false if the input ends before.
 fn fill(rt: &impl Input, buf: &mut [u8]) -> io::Result<bool> {
-    let mut input = rt.reader();
-    match input.read_exact(buf) {
+    match rt.reader().read_exact(buf) {
         Ok(()) => Ok(true),
-        Err(e) => {
-            if e.kind() == ErrorKind::UnexpectedEof {
-                return Ok(false);
-            }
-            Err(e)
-        }
+        Err(e) if e.kind() == ErrorKind::UnexpectedEof => Ok(false),
+        Err(e) => Err(e),
     }
 }
 
-// A case is its length in two bytes, low byte first, and its bytes. One that is longer than `buf` ends the cases.
-pub fn next(rt: &impl Input, buf: &mut [u8]) -> io::Result<Case> {
+// Reads the next case to the front of `buf`; none at the end of the cases. A case is its length in two bytes, low byte first, and its
+// bytes. One that is longer than `buf` ends the cases.
+pub fn next<'b>(rt: &impl Input, buf: &'b mut [u8]) -> io::Result<Option<&'b [u8]>> {
     let mut head = [0u8; 2];
     if !fill(rt, &mut head)? {
-        return Ok(Case::End);
+        return Ok(None);
     }
-    let n = num::steps::u16_at(&head, 0) as usize;
+    let n = u16::from_le_bytes(head) as usize;
     if buf.len() < n {
-        return Ok(Case::End);
+        return Ok(None);
     }
-    if !fill(rt, &mut buf[0..n])? {
-        return Ok(Case::End);
+    let case = &mut buf[..n];
+    if !fill(rt, case)? {
+        return Ok(None);
     }
-    Ok(Case::Bytes(n))
+    Ok(Some(case))
 }
 
-pub fn text(rt: &impl Print, s: &[u8]) -> io::Result<()> {
-    rt.write_all(s)
+// The most cases that are replayed.
+pub const MOST: usize = 100000;
+
+// Replays the cases in turn, of at most SIZE bytes each.
+pub fn each<const SIZE: usize, F: FnMut(&[u8]) -> io::Result<()>>(
+    rt: &impl Input,
+    mut replay: F,
+) -> io::Result<()>
+    requires { (SIZE < 2 ^ 63) × F.IsAlwaysCallable replay }
+{
+    let buf = &mut [0u8; SIZE][..];
+    for _ in 0..MOST {
+        match next(rt, buf)? {
+            Some(case) => replay(case)?,
+            None => return Ok(()),
+        }
+    }
+    Ok(())
 }
 
-// A number, with a space before it.
-pub fn number(rt: &impl Print, n: u64) -> io::Result<()> {
-    print!(rt; " {n}")
+// The words of 16 bits in `bytes`, low byte first, and zeros behind them.
+pub fn words<const N: usize>(bytes: &[u8]) -> [u16; N]
+    requires { N < 2 ^ 16 }
+{
+    let mut words = [0; N];
+    for (word, &pair) in words.iter_mut().zip(bytes.as_chunks::<2>().0) {
+        *word = u16::from_le_bytes(pair);
+    }
+    words
 }
 
-// A signed number, with a space before it.
-pub fn signed(rt: &impl Print, x: i32) -> io::Result<()> {
-    print!(rt; " {x}")
+// Prints a list: a line for each number, with the list's name and the number's place.
+pub fn list<T: Copy + Into<u64>>(rt: &impl Print, name: &str, numbers: &[T]) -> io::Result<()> {
+    for (place, &n) in numbers.iter().enumerate() {
+        let n: u64 = n.into();
+        println!(rt; "{name} {place} {n}")?;
+    }
+    Ok(())
 }
 
-pub fn signed_byte(rt: &impl Print, x: i8) -> io::Result<()> {
-    signed(rt, x as i32)
-}
-
-pub fn end_line(rt: &impl Print) -> io::Result<()> {
-    text(rt, b"\n")
-}
-
-// A line of a list: its name, a place and the number there.
-pub fn entry(rt: &impl Print, name: &[u8], place: u64, n: u64) -> io::Result<()> {
-    text(rt, name)?;
-    number(rt, place)?;
-    number(rt, n)?;
-    end_line(rt)
+// A check sum: of each number times its place, counted from 1, modulo 2^32.
+pub fn check<T: Copy + Into<u32>>(numbers: &[T]) -> u32 {
+    numbers.iter().zip(1u32..).fold(
+        0u32,
+        |sum, (&n, place)| sum.wrapping_add(n.into().wrapping_mul(place)),
+    )
 }

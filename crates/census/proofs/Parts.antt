@@ -6,7 +6,7 @@ use native.Mathlib.Decide.{dec_lt}
 use native.Mathlib.Omega.{arith}
 use borrow.Author.Tests.{le-ltb}
 use lib.IntN.{ℤ, pos, negsuc, nat_abs}
-use mir.Syntax.{w8, w16}
+use mir.Syntax.{w16}
 use mir.Val.{SFits}
 use Rattle.num.specs.Wrap.{mod_z}
 use Rattle.num.proofs.Diff.{sub-lt, sub-ge}
@@ -21,12 +21,6 @@ use Rattle.census.specs.Census.{bytes, signed_byte, sector_of, sector_in, amplit
 pub byte-abs : (k : ℕ) → k < bytes → nat_abs (signed_byte k) ≡ (128 - k) + (k - 128)
 byte-abs k l =
     by_cases (dec_lt k 128) (λ h. rw (sub-lt k 128 h) (omega arith)) (λ h. let m : 128 ≤ k = omega arith in rw (sub-ge k 128 m) (omega arith))
-
-pub byte_fits : (k : ℕ) → k < bytes → SFits w8 (signed_byte k)
-byte_fits k l =
-    by_cases (dec_lt k 128)
-    (λ h. rw (sub-lt k 128 h) (record { sfits = omega arith }))
-    (λ h. let m : 128 ≤ k = omega arith in rw (sub-ge k 128 m) (record { sfits = omega arith }))
 
 -- the bits of an angle, in eighths of a turn
 pub sector-bits : (a : ℤ) → SFits w16 a → mod_z a 65536 / 8192 ≡ sector_of a

@@ -3,11 +3,11 @@
 
 ghost use Rattle.std.specs.Prelude.{◌≡◌, ◌<◌, length};
 ghost use Rattle.num.specs.Lists.{tallies, plus};
-ghost use Rattle.phase.specs.Tables.{atan_octant};
 ghost use Rattle.census.specs.Census.{bytes, signed_byte, sector_of, census};
 ghost use Rattle.census.specs.Rows.{row_amplitudes, row_sectors, Countable};
 
-use phase::tables::ENTRIES;
+use phase::tables::AtanTable;
+use std::array;
 
 // How many numbers a signed byte may be.
 const BYTES: usize = 256;
@@ -40,14 +40,7 @@ fn signed_byte(k: usize) -> i8
 fn row_amplitudes(im: i8) -> [u16; BYTES]
     ensures { result ≡ row_amplitudes im }
 {
-    let mut row = [0u16; BYTES];
-    let mut k = 0;
-    while k < BYTES {
-        let a = csi::steps::amplitude(im, signed_byte(k));
-        row[k] = a;
-        k += 1;
-    }
-    row
+    array::from_fn(|k| csi::steps::amplitude(im, signed_byte(k)))
 }
 
 // The sector of an angle: a whole turn is added to a negative one.
@@ -58,18 +51,10 @@ fn sector_of(angle: i16) -> u16
 }
 
 // The sectors of the same pairs.
-fn row_sectors(table: &[u16; ENTRIES], im: i8) -> [u16; BYTES]
-    requires { table.now ≡ atan_octant }
+fn row_sectors(table: &AtanTable, im: i8) -> [u16; BYTES]
     ensures { result ≡ row_sectors im }
 {
-    let mut row = [0u16; BYTES];
-    let mut k = 0;
-    while k < BYTES {
-        let s = sector_of(phase::steps::angle(table, im, signed_byte(k)));
-        row[k] = s;
-        k += 1;
-    }
-    row
+    array::from_fn(|k| sector_of(table.angle(im, signed_byte(k))))
 }
 
 // Adds to each count how often its place stands in the row.
@@ -77,37 +62,22 @@ fn add_row(counts: &mut [u32], row: &[u16; BYTES])
     requires { Countable row.now counts.old }
     ensures { counts.new ≡ plus counts.old (tallies (length counts.old) (λ v. v) row.now) }
 {
-    let mut k = 0;
-    while k < BYTES {
-        let v = row[k] as usize;
-        counts[v] += 1;
-        k += 1;
+    for &v in row {
+        counts[usize::from(v)] += 1;
     }
-}
-
-// All pairs, counted, with the table of the angles at hand.
-fn counted(table: &[u16; ENTRIES]) -> Census
-    requires { table.now ≡ atan_octant }
-    ensures { result ≡ census }
-{
-    let mut amplitude = [0u32; AMPLITUDES];
-    let mut sector = [0u32; SECTORS];
-    let mut k = 0;
-    while k < BYTES {
-        let im = signed_byte(k);
-        let row = row_amplitudes(im);
-        add_row(&mut amplitude, &row);
-        let row = row_sectors(table, im);
-        add_row(&mut sector, &row);
-        k += 1;
-    }
-    Census { amplitude, sector }
 }
 
 // All pairs, counted.
 pub fn count() -> Census
     ensures { result ≡ census }
 {
-    let table = phase::tables::atan_table();
-    counted(&table)
+    let table = AtanTable::new();
+    let mut amplitude = [0u32; AMPLITUDES];
+    let mut sector = [0u32; SECTORS];
+    for k in 0..BYTES {
+        let im = signed_byte(k);
+        add_row(&mut amplitude, &row_amplitudes(im));
+        add_row(&mut sector, &row_sectors(&table, im));
+    }
+    Census { amplitude, sector }
 }

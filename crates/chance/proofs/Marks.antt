@@ -1,17 +1,18 @@
 -- Marks: their states behave as those of the machine, a mark has its place, and the next mark is a good one.
-use mathlib.Core.Path.{◌≡◌, refl, sym, ap, subst, ◌∙◌}
+use mathlib.Core.Path.{◌≡◌, refl, sym, ap, ◌∙◌}
 use mathlib.Core.Bool.{Bool, true, false, cond, ◌&&◌}
 use mathlib.Core.List.{List, [], ◌∷◌}
 use Prim.Native.Nat.{ℕ, suc, ◌+◌, ◌-◌, ◌*◌, ◌/◌, ◌%◌, max, ◌≤◌, ◌<◌}
 use native.Mathlib.Omega.{arith}
 use lib.Dec.{leb, ltb}
 use borrow.Author.Tests.{lt-ltb, le-leb, ltb-true, leb-true}
-use Rattle.num.proofs.Logic.{both}
+use Rattle.std.specs.Prelude.{Some, None}
+use Rattle.std.proofs.lemmas.Bool.{and_parts}
 use Rattle.fall.specs.declared.FallConfig.{FallConfig}
-use Rattle.fall.specs.declared.Stepped.{Stepped}
+use Rattle.fall.specs.declared.FallDetector.{FallDetector}
+use Rattle.fall.specs.declared.Pushed.{Pushed}
 use Rattle.fall.specs.declared.Phase.{Phase}
 use Rattle.fall.specs.declared.Phase.TheVariants.{Idle, Active, Burst, Settling, Refractory}
-use Rattle.fall.specs.declared.Quiet.TheVariants.{Never, Since}
 use Rattle.fall.specs.Fall.{end_of, step_of, pushed, silent, raised, moving}
 use Rattle.chance.specs.Chance.{said, events_of, max_frames}
 use Rattle.chance.specs.Marks.{phase_of, since_mark, quiet_mark, burst_mark, still_mark, end_mark, next_mark, reached, places, place_of, mark_at, at}
@@ -27,8 +28,8 @@ plain (Settling b p s) = Settling 0 0 s
 plain (Refractory u) = Refractory u
 
 -- two steps that say the same and lead to the same, but for that
-pub record Like (x y : Stepped) : Type 0 where
-  pub state : plain x.phase ≡ plain y.phase
+pub record Like (x y : Pushed) : Type 0 where
+  pub state : plain x.detector.phase ≡ plain y.detector.phase
   pub says : said x.suspicion ≡ said y.suspicion
 
 burst-like : (x y : Bool) (a p w t : ℕ) → plain (cond x (Settling a 0 t) (cond y (moving t) (Burst a (max 0 w)))) ≡ plain (cond x (Settling a p t) (cond y (moving t) (Burst a (max p w))))
@@ -37,12 +38,12 @@ burst-like false true a p w t = refl
 burst-like false false a p w t = refl
 
 settling-like : (c : FallConfig) (x y : Bool) (b p s t : ℕ)
-    → Like (cond x (silent (moving t)) (cond y (raised c 0 0 s t) (silent (Settling 0 0 s)))) (cond x (silent (moving t)) (cond y (raised c b p s t) (silent (Settling b p s))))
+    → Like (cond x (silent c (moving t)) (cond y (raised c 0 0 s t) (silent c (Settling 0 0 s)))) (cond x (silent c (moving t)) (cond y (raised c b p s t) (silent c (Settling b p s))))
 settling-like c true y b p s t = record { state = refl; says = refl }
 settling-like c false true b p s t = record { state = refl; says = refl }
 settling-like c false false b p s t = record { state = refl; says = refl }
 
-alike : {x : Stepped} → Like x x
+alike : {x : Pushed} → Like x x
 alike = record { state = refl; says = refl }
 
 pub step-like : (c : FallConfig) (p : Phase) (w t : ℕ) → Like (step_of c (plain p) w t) (step_of c p w t)
@@ -54,22 +55,42 @@ step-like c (Settling b p s) w t =
     settling-like c (leb c.active_permille w) (leb w c.still_permille && leb c.still_for (t - s)) b p s t
 step-like c (Refractory u) w t = alike
 
+-- a step leaves the settings
+settling-kept : (c : FallConfig) (x y : Bool) (b p s t : ℕ)
+    → (cond x (silent c (moving t)) (cond y (raised c b p s t) (silent c (Settling b p s)))).detector.config ≡ c
+settling-kept c true y b p s t = refl
+settling-kept c false true b p s t = refl
+settling-kept c false false b p s t = refl
+
+config-kept : (c : FallConfig) (p : Phase) (w t : ℕ) → (step_of c p w t).detector.config ≡ c
+unfolding step_of
+config-kept c Idle w t = refl
+config-kept c (Active s q) w t = refl
+config-kept c (Burst a p) w t = refl
+config-kept c (Settling b p s) w t = settling-kept c (leb c.active_permille w) (leb w c.still_permille && leb c.still_for (t - s)) b p s t
+config-kept c (Refractory u) w t = refl
+
+pub kept : (c : FallConfig) (p : Phase) (w t : ℕ) → (step_of c p w t).detector ≡ at c (step_of c p w t).detector.phase
+kept c p w t = λ i. at (config-kept c p w t i) (step_of c p w t).detector.phase
+
 pub events-plain : (c : FallConfig) (p : Phase) (t spacing : ℕ) (ws : List ℕ) → events_of (at c (plain p)) t spacing ws ≡ events_of (at c p) t spacing ws
 unfolding events_of pushed
 events-plain c p t spacing [] = refl
 events-plain c p t spacing (w ∷ ws) =
     let l = step-like c p w t in
-    let x : Phase = (step_of c (plain p) w t).phase in
-    let y : Phase = (step_of c p w t).phase in
-    let later = sym (events-plain c x (t + spacing) spacing ws) ∙ ap (λ (z : Phase). events_of (at c z) (t + spacing) spacing ws) l.state ∙ events-plain c y (t + spacing) spacing ws in
-    rw (l.says, later)
+    let rest : FallDetector → ℕ = λ d. events_of d (t + spacing) spacing ws in
+    let x : Phase = (step_of c (plain p) w t).detector.phase in
+    let y : Phase = (step_of c p w t).detector.phase in
+    let later : rest (at c x) ≡ rest (at c y) =
+    sym (events-plain c x (t + spacing) spacing ws) ∙ ap (λ (z : Phase). rest (at c z)) l.state ∙ events-plain c y (t + spacing) spacing ws in
+    rw (l.says, ap rest (kept c (plain p) w t) ∙ later ∙ sym (ap rest (kept c p w t)))
 
 -- ---- the next mark stands for the next state
 module _ (c : FallConfig) (s j w : ℕ) where
   -- where the mark says when the motion began and since when it is quiet
   active-stands : (m : Mark) (a q : ℕ) (x y z : Bool) → burst_mark m j ≡ j → since_mark m j ≡ a → quiet_mark m j ≡ q
-      → phase_of c s (next_mark m j (cond x (Burst (j * s) w) (cond y (cond z Idle (Active (a * s) (Since (q * s)))) (moving (a * s)))))
-      ≡ plain (cond x (Burst (j * s) w) (cond y (cond z Idle (Active (a * s) (Since (q * s)))) (moving (a * s))))
+      → phase_of c s (next_mark m j (cond x (Burst (j * s) w) (cond y (cond z Idle (Active (a * s) (Some (q * s)))) (moving (a * s)))))
+      ≡ plain (cond x (Burst (j * s) w) (cond y (cond z Idle (Active (a * s) (Some (q * s)))) (moving (a * s))))
   unfolding phase_of next_mark
   active-stands m a q true y z e f g = rw e
   active-stands m a q false true true e f g = refl
@@ -88,10 +109,10 @@ module _ (c : FallConfig) (s j w : ℕ) where
   burst-stands b false true = refl
   burst-stands b false false = refl
 
-  lying : (l : ℕ) (x y : Bool) → Stepped
-  lying l x y = cond x (silent (moving (j * s))) (cond y (raised c 0 0 (l * s) (j * s)) (silent (Settling 0 0 (l * s))))
+  lying : (l : ℕ) (x y : Bool) → Pushed
+  lying l x y = cond x (silent c (moving (j * s))) (cond y (raised c 0 0 (l * s) (j * s)) (silent c (Settling 0 0 (l * s))))
 
-  lying-stands : (l : ℕ) (x y : Bool) → phase_of c s (next_mark (Lying l) j (lying l x y).phase) ≡ plain (lying l x y).phase
+  lying-stands : (l : ℕ) (x y : Bool) → phase_of c s (next_mark (Lying l) j (lying l x y).detector.phase) ≡ plain (lying l x y).detector.phase
   unfolding phase_of next_mark lying
   lying-stands l true y = refl
   lying-stands l false true = refl
@@ -102,7 +123,7 @@ module _ (c : FallConfig) (s j w : ℕ) where
   waiting-stands e true = refl
   waiting-stands e false = refl
 
-  pub stands : (m : Mark) → phase_of c s (next_mark m j (step_of c (phase_of c s m) w (j * s)).phase) ≡ plain (step_of c (phase_of c s m) w (j * s)).phase
+  pub stands : (m : Mark) → phase_of c s (next_mark m j (step_of c (phase_of c s m) w (j * s)).detector.phase) ≡ plain (step_of c (phase_of c s m) w (j * s)).detector.phase
   unfolding phase_of step_of lying
   stands Resting = resting-stands (leb c.active_permille w)
   stands (Moving a) =
@@ -126,7 +147,7 @@ pub good : (j : ℕ) (m : Mark) → reached j m ≡ true → Good j m
 unfolding Good reached
 good j Resting e = tt
 good j (Moving a) e = ltb-true a j e
-good j (Calming a q) e = let d = both (leb a q) (ltb q j) e in (leb-true a q d.0, ltb-true q j d.1)
+good j (Calming a q) e = let d = and_parts _ _ e in (leb-true a q d.0, ltb-true q j d.1)
 good j (Bursting b) e = ltb-true b j e
 good j (Lying l) e = ltb-true l j e
 good j (Waiting e) d = ltb-true e j d
@@ -155,84 +176,33 @@ met-later i j m h e = met j m (later i j m h (good i m e))
 
 -- the next frame can meet the next mark
 module _ (j : ℕ) where
-  since-good : (m : Mark) → Good j m → since_mark m j < suc j
-  unfolding Good
-  since-good Resting g = omega arith
-  since-good (Moving a) g = omega arith
-  since-good (Calming a q) g = omega (arith, g.0, g.1)
-  since-good (Bursting b) g = omega arith
-  since-good (Lying l) g = omega arith
-  since-good (Waiting e) g = omega arith
+  record Parts (m : Mark) : Type 0 where
+    since : since_mark m j ≤ quiet_mark m j
+    quiet : quiet_mark m j < suc j
+    burst : burst_mark m j < suc j
+    still : still_mark m j < suc j
+    end : end_mark m j < suc j
 
-  quiet-good : (m : Mark) → Good j m → (since_mark m j ≤ quiet_mark m j) × (quiet_mark m j < suc j)
+  parts : (m : Mark) → Good j m → Parts m
   unfolding Good
-  quiet-good Resting g = (omega arith, omega arith)
-  quiet-good (Moving a) g = (omega arith, omega arith)
-  quiet-good (Calming a q) g = (g.0, omega (arith, g.1))
-  quiet-good (Bursting b) g = (omega arith, omega arith)
-  quiet-good (Lying l) g = (omega arith, omega arith)
-  quiet-good (Waiting e) g = (omega arith, omega arith)
-
-  burst-good : (m : Mark) → Good j m → burst_mark m j < suc j
-  unfolding Good
-  burst-good Resting g = omega arith
-  burst-good (Moving a) g = omega arith
-  burst-good (Calming a q) g = omega arith
-  burst-good (Bursting b) g = omega arith
-  burst-good (Lying l) g = omega arith
-  burst-good (Waiting e) g = omega arith
-
-  still-good : (m : Mark) → Good j m → still_mark m j < suc j
-  unfolding Good
-  still-good Resting g = omega arith
-  still-good (Moving a) g = omega arith
-  still-good (Calming a q) g = omega arith
-  still-good (Bursting b) g = omega arith
-  still-good (Lying l) g = omega arith
-  still-good (Waiting e) g = omega arith
-
-  end-good : (m : Mark) → Good j m → end_mark m j < suc j
-  unfolding Good
-  end-good Resting g = omega arith
-  end-good (Moving a) g = omega arith
-  end-good (Calming a q) g = omega arith
-  end-good (Bursting b) g = omega arith
-  end-good (Lying l) g = omega arith
-  end-good (Waiting e) g = omega arith
+  parts Resting g = record { since = omega arith; quiet = omega arith; burst = omega arith; still = omega arith; end = omega arith }
+  parts (Moving a) g = record { since = omega arith; quiet = omega arith; burst = omega arith; still = omega arith; end = omega arith }
+  parts (Calming a q) g = record { since = g.0; quiet = omega (arith, g.1); burst = omega arith; still = omega arith; end = omega arith }
+  parts (Bursting b) g = record { since = omega arith; quiet = omega arith; burst = omega arith; still = omega arith; end = omega arith }
+  parts (Lying l) g = record { since = omega arith; quiet = omega arith; burst = omega arith; still = omega arith; end = omega arith }
+  parts (Waiting e) g = record { since = omega arith; quiet = omega arith; burst = omega arith; still = omega arith; end = omega arith }
 
   pub next-good : (m : Mark) (p : Phase) → Good j m → Good (suc j) (next_mark m j p)
   unfolding Good next_mark
   next-good m Idle g = tt
-  next-good m (Active s Never) g = since-good m g
-  next-good m (Active s (Since q)) g = quiet-good m g
-  next-good m (Burst a p) g = burst-good m g
-  next-good m (Settling b p s) g = still-good m g
-  next-good m (Refractory u) g = end-good m g
+  next-good m (Active s None) g = let p = parts m g in omega (arith, p.since, p.quiet)
+  next-good m (Active s (Some q)) g = let p = parts m g in (p.since, p.quiet)
+  next-good m (Burst a p) g = (parts m g).burst
+  next-good m (Settling b p s) g = (parts m g).still
+  next-good m (Refractory u) g = (parts m g).end
 
 pub met_next : (j : ℕ) (m : Mark) (p : Phase) → reached j m ≡ true → reached (suc j) (next_mark m j p) ≡ true
 met_next j m p e = met (suc j) (next_mark m j p) (next-good j m p (good j m e))
-
--- what a mark that is met holds
-module _ {j : ℕ} {m : Mark} where
-  pub moving-met : {a : ℕ} → m ≡ Moving a → reached j m ≡ true → a < j
-  unfolding Good
-  moving-met e r = subst (Good j) e (good j m r)
-
-  pub calming-met : {a q : ℕ} → m ≡ Calming a q → reached j m ≡ true → (a ≤ q) × (q < j)
-  unfolding Good
-  calming-met e r = subst (Good j) e (good j m r)
-
-  pub bursting-met : {b : ℕ} → m ≡ Bursting b → reached j m ≡ true → b < j
-  unfolding Good
-  bursting-met e r = subst (Good j) e (good j m r)
-
-  pub lying-met : {l : ℕ} → m ≡ Lying l → reached j m ≡ true → l < j
-  unfolding Good
-  lying-met e r = subst (Good j) e (good j m r)
-
-  pub waiting-met : {e : ℕ} → m ≡ Waiting e → reached j m ≡ true → e < j
-  unfolding Good
-  waiting-met e r = subst (Good j) e (good j m r)
 
 -- ---- places
 pub place-small : (m : Mark) → Good max_frames m → place_of m < places

@@ -1,18 +1,17 @@
 -- The theorems of specs/Rules.antt.
-use mathlib.Core.Path.{◌≡◌, ◌∙◌}
+use mathlib.Core.Path.{◌≡◌, refl, ◌∙◌}
 use mathlib.Core.Bool.{true}
 use mathlib.Core.List.{List}
 use Prim.Native.Nat.{ℕ, ◌^◌, ◌≤◌, ◌<◌}
 use native.Mathlib.Omega.{arith}
 use borrow.Author.Tests.{leb-true}
-use lib.Dec.{leb}
 use lib.ListN.{length}
 use Rattle.num.specs.Sum.{total}
-use Rattle.num.proofs.Logic.{both}
+use Rattle.std.proofs.lemmas.Bool.{and_parts}
 use Rattle.num.proofs.Partition.{partition, all_of}
 use Rattle.fall.specs.declared.FallConfig.{FallConfig}
 use Rattle.fall.specs.Fall.{new_detector}
-use Rattle.chance.specs.Chance.{sequences, events_of, max_choices, max_frames, max_spacing, event_counts, allowed, counts_of, chances_answer}
+use Rattle.chance.specs.Chance.{sequences, events_of, max_frames, event_counts, allowed, counts_of, chances_answer}
 use Rattle.chance.specs.Marks.{layers}
 use Rattle.chance.specs.Rules.{SequencesAreAll, CountsTotalAllSequences, EventsTakeFrames}
 use Rattle.chance.proofs.Sequences.{length-sequences, events-take-frames, few}
@@ -32,9 +31,8 @@ total-counts c choices spacing n h =
 few-frames : (choices spacing n : ℕ) → allowed choices spacing n ≡ true → n ≤ max_frames
 unfolding allowed
 few-frames choices spacing n e =
-    let some = (both (leb 1 choices) _ e).1 in let frames = (both (leb choices max_choices) _ some).1 in
-    leb-true n max_frames (both (leb n max_frames) (leb spacing max_spacing) frames).0
+    let some = (and_parts _ _ e).1 in let frames = (and_parts _ _ some).1 in leb-true n max_frames (and_parts _ _ frames).0
 
 pub counts-total-all : CountsTotalAllSequences
 unfolding chances_answer
-counts-total-all c choices spacing n e = rw e (total-counts c choices spacing n (few-frames (length choices) spacing n e))
+counts-total-all c choices spacing n e = (counts_of c choices spacing n, (rw e refl, total-counts c choices spacing n (few-frames (length choices) spacing n e)))

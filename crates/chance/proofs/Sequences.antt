@@ -11,15 +11,16 @@ use Rattle.num.specs.Lists.{having}
 use Rattle.num.specs.Sum.{total}
 use Rattle.num.proofs.Map.{map-agree}
 use Rattle.num.proofs.Partition.{All, all_map, all-flat, all_of, length-flat, having-le, having-none, having-flat, having-map, having-raised}
+use Rattle.std.specs.Prelude.{Some}
 use Rattle.fall.specs.declared.FallConfig.{FallConfig}
 use Rattle.fall.specs.declared.FallDetector.{FallDetector}
-use Rattle.fall.specs.declared.Stepped.{Stepped}
+use Rattle.fall.specs.declared.Pushed.{Pushed}
 use Rattle.fall.specs.declared.Phase.{Phase}
 use Rattle.fall.specs.declared.Phase.TheVariants.{Idle, Active, Burst, Settling, Refractory}
-use Rattle.fall.specs.declared.Quiet.TheVariants.{Since}
 use Rattle.fall.specs.Fall.{step_of, pushed, silent, raised, moving, quiet_from}
 use Rattle.chance.specs.Chance.{sequences, said, events_of, max_frames, max_choices}
 use Rattle.chance.specs.Marks.{at, layers, most_ways}
+use Rattle.chance.proofs.Marks.{kept}
 
 pub length-sequences : (choices : List ℕ) (n : ℕ) → length (sequences choices n) ≡ length choices ^ n
 unfolding sequences
@@ -44,41 +45,45 @@ rank (Burst a p) = 3
 rank (Settling b p s) = 4
 rank (Refractory u) = 0
 
-Nearer : ℕ → Stepped → Type 0
-Nearer r st = rank st.phase + 5 * said st.suspicion ≤ r + 1
+Nearer : ℕ → Pushed → Type 0
+Nearer r st = rank st.detector.phase + 5 * said st.suspicion ≤ r + 1
 
 two_ways : (r : ℕ) (x : Bool) (p q : Phase) → rank p ≤ r + 1 → rank q ≤ r + 1 → rank (cond x p q) ≤ r + 1
 two_ways r true p q h l = h
 two_ways r false p q h l = l
 
-settling-near : (c : FallConfig) (x y : Bool) (b p s t : ℕ) → Nearer 4 (cond x (silent (moving t)) (cond y (raised c b p s t) (silent (Settling b p s))))
+settling-near : (c : FallConfig) (x y : Bool) (b p s t : ℕ) → Nearer 4 (cond x (silent c (moving t)) (cond y (raised c b p s t) (silent c (Settling b p s))))
 unfolding Nearer rank
 settling-near c true y b p s t = omega arith
 settling-near c false true b p s t = omega arith
 settling-near c false false b p s t = omega arith
 
-said-nothing : (r : ℕ) (p : Phase) → rank p ≤ r + 1 → Nearer r (silent p)
+said-nothing : (r : ℕ) (c : FallConfig) (p : Phase) → rank p ≤ r + 1 → Nearer r (silent c p)
 unfolding Nearer
-said-nothing r p h = omega arith
+said-nothing r c p h = omega arith
 
 nearer : (c : FallConfig) (p : Phase) (w t : ℕ) → Nearer (rank p) (step_of c p w t)
 unfolding step_of rank
-nearer c Idle w t = said-nothing 1 _ (two_ways 1 (leb c.active_permille w) (moving t) Idle (omega arith) (omega arith))
+nearer c Idle w t = said-nothing 1 c _ (two_ways 1 (leb c.active_permille w) (moving t) Idle (omega arith) (omega arith))
 nearer c (Active s q) w t =
-    said-nothing 2 _ (two_ways 2 (leb c.burst_permille w && leb c.min_active (t - s)) (Burst t w) _ (omega arith)
+    said-nothing 2 c _ (two_ways 2 (leb c.burst_permille w && leb c.min_active (t - s)) (Burst t w) _ (omega arith)
     (two_ways 2 (leb w c.still_permille) _ (moving s)
-    (two_ways 2 (leb c.quiet_grace (t - quiet_from q t)) Idle (Active s (Since (quiet_from q t))) (omega arith) (omega arith)) (omega arith)))
+    (two_ways 2 (leb c.quiet_grace (t - quiet_from q t)) Idle (Active s (Some (quiet_from q t))) (omega arith) (omega arith)) (omega arith)))
 nearer c (Burst a p) w t =
-    said-nothing 3 _ (two_ways 3 (leb w c.still_permille) (Settling a p t) _ (omega arith)
+    said-nothing 3 c _ (two_ways 3 (leb w c.still_permille) (Settling a p t) _ (omega arith)
     (two_ways 3 (ltb c.settle (t - a)) (moving t) (Burst a (max p w)) (omega arith) (omega arith)))
 nearer c (Settling b p s) w t = settling-near c (leb c.active_permille w) (leb w c.still_permille && leb c.still_for (t - s)) b p s t
-nearer c (Refractory u) w t = said-nothing 0 _ (two_ways 0 (leb u t) Idle (Refractory u) (omega arith) (omega arith))
+nearer c (Refractory u) w t = said-nothing 0 c _ (two_ways 0 (leb u t) Idle (Refractory u) (omega arith) (omega arith))
 
 -- each frame brings the next event one step nearer at most, and an event takes it back by five
 by_rank : (c : FallConfig) (p : Phase) (t spacing : ℕ) (ws : List ℕ) → 5 * events_of (at c p) t spacing ws ≤ length ws + rank p
 unfolding events_of pushed Nearer
 by_rank c p t spacing [] = omega arith
-by_rank c p t spacing (w ∷ ws) = omega (arith, nearer c p w t, by_rank c (step_of c p w t).phase (t + spacing) spacing ws)
+by_rank c p t spacing (w ∷ ws) =
+    let q = (step_of c p w t).detector.phase in
+    let later : 5 * events_of (step_of c p w t).detector (t + spacing) spacing ws ≤ length ws + rank q =
+    rw (kept c p w t) (by_rank c q (t + spacing) spacing ws) in
+    omega (arith, nearer c p w t, later)
 
 pub events-take-frames : (c : FallConfig) (t spacing : ℕ) (ws : List ℕ) → 5 * events_of (at c Idle) t spacing ws ≤ suc (length ws)
 unfolding rank

@@ -17,6 +17,7 @@ use Rattle.num.proofs.Lists.{length-build, at-build, build-same}
 use Rattle.num.proofs.Partition.{having-same}
 use Rattle.num.proofs.Map.{map-agree}
 use Rattle.fall.specs.declared.FallConfig.{FallConfig}
+use Rattle.fall.specs.declared.FallDetector.{FallDetector}
 use Rattle.fall.specs.declared.Phase.{Phase}
 use Rattle.fall.specs.declared.Pushed.{Pushed}
 use Rattle.fall.specs.Fall.{step_of, pushed, new_detector}
@@ -24,7 +25,7 @@ use Rattle.chance.specs.Chance.{sequences, said, events_of, counts_of, max_frame
 use Rattle.chance.specs.Marks.{phase_of, next_mark, reached, places, layers, entries, resting_place, place_of, mark_at, ways_at, empty_entry, empty_table, at, stepped, term_of, sum_of, entry_of, table_of, resting_counts, most_ways, Whole}
 use Rattle.chance.specs.declared.Mark.{Mark}
 use Rattle.chance.specs.declared.Mark.TheVariants.{Resting}
-use Rattle.chance.proofs.Marks.{plain, events-plain, stands, Good, good, met, later, next-good, at_place, place-small}
+use Rattle.chance.proofs.Marks.{plain, events-plain, kept, stands, Good, good, met, later, next-good, at_place, place-small}
 use Rattle.chance.proofs.Sequences.{ways-small, none_above, by_first}
 
 -- an entry's number of events and place
@@ -83,16 +84,18 @@ module _ (c : FallConfig) (s : ℕ) (choices : List ℕ) where
       next = next_mark m j after
 
       -- from the next mark it goes on as from the next state
-      goes_on : (i : ℕ) → from_mark (suc j) n i next ≡ having (events_of (at c after) (j * s + s) s) (sequences choices n) i
+      goes_on : (i : ℕ) → from_mark (suc j) n i next ≡ having (events_of (stepped c s j m w).detector (j * s + s) s) (sequences choices n) i
       unfolding from_mark next after stepped pushed
       goes_on i =
           let e : suc j * s ≡ j * s + s = omega arith in
+          let p : Phase = (step_of c (phase_of c s m) w (j * s)).detector.phase in
           rw (stands c s j w m, e)
-          (having-same (events_of (at c (plain (step_of c (phase_of c s m) w (j * s)).phase)) (j * s + s) s) (events_of (at c (step_of c (phase_of c s m) w (j * s)).phase) (j * s + s) s)
-          (events-plain c (step_of c (phase_of c s m) w (j * s)).phase (j * s + s) s) i (sequences choices n))
+          (having-same (events_of (at c (plain p)) (j * s + s) s) (events_of (at c p) (j * s + s) s) (events-plain c p (j * s + s) s) i (sequences choices n)
+          ∙ ap (λ (d : FallDetector). having (events_of d (j * s + s) s) (sequences choices n) i) (sym (kept c (phase_of c s m) w (j * s))))
 
       term_is : term_of c s j table k m w
-          ≡ cond (ltb k (said (stepped c s j m w).suspicion)) 0 (having (events_of (at c after) (j * s + s) s) (sequences choices n) (k - said (stepped c s j m w).suspicion))
+          ≡ cond (ltb k (said (stepped c s j m w).suspicion)) 0
+          (having (events_of (stepped c s j m w).detector (j * s + s) s) (sequences choices n) (k - said (stepped c s j m w).suspicion))
       unfolding term_of next after
       term_is =
           let i = k - said (stepped c s j m w).suspicion in

@@ -1,14 +1,14 @@
 -- How often chance makes a fall (docs/SPEC.md, "How often chance makes a fall"): of all sequences of n wander values out of the choices, fed to a
 -- new fall machine at times 0, spacing, 2·spacing and so on, how many make exactly k events.
-use Rattle.std.specs.Prelude.{Bool, cond, ◌&&◌, ℕ, zero, suc, ◌+◌, leb, length, replicate}
+use Rattle.std.specs.Prelude.{Bool, cond, ◌&&◌, ℕ, zero, suc, ◌+◌, leb, length, Option, Some, None, Result, Ok, Err}
 use mathlib.Core.List.{List, [], ◌∷◌, map, flat_map}
 use Rattle.num.specs.Lists.{tallies}
 use Rattle.fall.specs.declared.FallConfig.{FallConfig}
 use Rattle.fall.specs.declared.FallDetector.{FallDetector}
-use Rattle.fall.specs.declared.Suspicion.{Suspicion}
-use Rattle.fall.specs.declared.Suspicion.TheVariants.{Nothing, Fall}
+use Rattle.fall.specs.declared.FallEvent.{FallEvent}
 use Rattle.fall.specs.Fall.{new_detector, pushed}
-use Rattle.chance.specs.declared.Chances.{Chances}
+use Rattle.refusal.specs.declared.Refusal.{Refusal}
+use Rattle.refusal.specs.declared.Refusal.TheVariants.{Chance}
 
 -- all sequences of n choices: each choice in front of each sequence of the rest. A value that is listed twice is two choices
 unfoldable pub sequences : List ℕ → ℕ → List (List ℕ)
@@ -16,9 +16,9 @@ sequences choices zero = [] ∷ []
 sequences choices (suc n) = flat_map (λ w. map (λ rest. w ∷ rest) (sequences choices n)) choices
 
 -- the events that a frame says: one or none
-abbrev pub said : Suspicion → ℕ
-said Nothing = 0
-said (Fall e) = 1
+abbrev pub said : Option FallEvent → ℕ
+said None = 0
+said (Some e) = 1
 
 -- the events that a machine makes of wander values, the first at time t
 unfoldable pub events_of : FallDetector → (t spacing : ℕ) → List ℕ → ℕ
@@ -52,10 +52,8 @@ chance_refusal = 13
 unfoldable pub allowed : (choices spacing n : ℕ) → Bool
 allowed choices spacing n = leb 1 choices && (leb choices max_choices && (leb n max_frames && leb spacing max_spacing))
 
-abbrev pub refused_answer : Chances
-refused_answer = record { refusal = chance_refusal; counts = replicate event_counts 0 }
+abbrev pub chances_refusal : (choices spacing n : ℕ) → ℕ
+chances_refusal choices spacing n = cond (allowed choices spacing n) 0 chance_refusal
 
-unfoldable pub chances_answer : FallConfig → List ℕ → (spacing n : ℕ) → Chances
-chances_answer c choices spacing n =
-    cond (allowed (length choices) spacing n) (record { refusal = 0; counts = counts_of c choices spacing n })
-    refused_answer
+unfoldable pub chances_answer : FallConfig → List ℕ → (spacing n : ℕ) → Result (List ℕ) Refusal
+chances_answer c choices spacing n = cond (allowed (length choices) spacing n) (Ok (counts_of c choices spacing n)) (Err Chance)

@@ -1,7 +1,7 @@
 -- How the code counts: the states that a new machine can be in where times are whole spacings, and a table with a count for each of them and for
 -- each number of events. A mark is a state with frames in place of times, without what the machine never looks at (a burst's peak, and of a body
 -- that lies still when the burst was).
-use Rattle.std.specs.Prelude.{◌≡◌, Bool, true, cond, ◌&&◌, List, map, ℕ, ◌+◌, ◌-◌, ◌*◌, ◌/◌, ◌%◌, ◌≤◌, eqb, leb, ltb, length, get_or}
+use Rattle.std.specs.Prelude.{◌≡◌, Bool, true, cond, ◌&&◌, List, map, ℕ, ◌+◌, ◌-◌, ◌*◌, ◌/◌, ◌%◌, ◌≤◌, eqb, leb, ltb, length, get_or, Some, None}
 use Rattle.num.specs.Sum.{total}
 use Rattle.num.specs.Lists.{build}
 use Rattle.fall.specs.declared.FallConfig.{FallConfig}
@@ -9,7 +9,6 @@ use Rattle.fall.specs.declared.FallDetector.{FallDetector}
 use Rattle.fall.specs.declared.Pushed.{Pushed}
 use Rattle.fall.specs.declared.Phase.{Phase}
 use Rattle.fall.specs.declared.Phase.TheVariants.{Idle, Active, Burst, Settling, Refractory}
-use Rattle.fall.specs.declared.Quiet.TheVariants.{Never, Since}
 use Rattle.fall.specs.Fall.{end_of, pushed}
 use Rattle.chance.specs.Chance.{said, max_frames, event_counts}
 use Rattle.chance.specs.declared.Mark.{Mark}
@@ -18,58 +17,39 @@ use Rattle.chance.specs.declared.Mark.TheVariants.{Resting, Moving, Calming, Bur
 -- the state that a mark stands for
 unfoldable pub phase_of : FallConfig → (spacing : ℕ) → Mark → Phase
 phase_of c s Resting = Idle
-phase_of c s (Moving a) = Active (a * s) Never
-phase_of c s (Calming a q) = Active (a * s) (Since (q * s))
+phase_of c s (Moving a) = Active (a * s) None
+phase_of c s (Calming a q) = Active (a * s) (Some (q * s))
 phase_of c s (Bursting b) = Burst (b * s) 0
 phase_of c s (Lying l) = Settling 0 0 (l * s)
 phase_of c s (Waiting e) = Refractory (end_of c (e * s))
 
 -- the frame that a part of the next state began at: that of the mark where it has this part, else frame j
 abbrev pub since_mark : Mark → ℕ → ℕ
-since_mark Resting j = j
 since_mark (Moving a) j = a
 since_mark (Calming a q) j = a
-since_mark (Bursting b) j = j
-since_mark (Lying l) j = j
-since_mark (Waiting e) j = j
+since_mark _ j = j
 
 abbrev pub quiet_mark : Mark → ℕ → ℕ
-quiet_mark Resting j = j
-quiet_mark (Moving a) j = j
 quiet_mark (Calming a q) j = q
-quiet_mark (Bursting b) j = j
-quiet_mark (Lying l) j = j
-quiet_mark (Waiting e) j = j
+quiet_mark _ j = j
 
 abbrev pub burst_mark : Mark → ℕ → ℕ
-burst_mark Resting j = j
-burst_mark (Moving a) j = j
-burst_mark (Calming a q) j = j
 burst_mark (Bursting b) j = b
-burst_mark (Lying l) j = j
-burst_mark (Waiting e) j = j
+burst_mark _ j = j
 
 abbrev pub still_mark : Mark → ℕ → ℕ
-still_mark Resting j = j
-still_mark (Moving a) j = j
-still_mark (Calming a q) j = j
-still_mark (Bursting b) j = j
 still_mark (Lying l) j = l
-still_mark (Waiting e) j = j
+still_mark _ j = j
 
 abbrev pub end_mark : Mark → ℕ → ℕ
-end_mark Resting j = j
-end_mark (Moving a) j = j
-end_mark (Calming a q) j = j
-end_mark (Bursting b) j = j
-end_mark (Lying l) j = j
 end_mark (Waiting e) j = e
+end_mark _ j = j
 
 -- the mark of the state that frame j leads to from a mark
 unfoldable pub next_mark : Mark → (j : ℕ) → Phase → Mark
 next_mark m j Idle = Resting
-next_mark m j (Active s Never) = Moving (since_mark m j)
-next_mark m j (Active s (Since q)) = Calming (since_mark m j) (quiet_mark m j)
+next_mark m j (Active s None) = Moving (since_mark m j)
+next_mark m j (Active s (Some q)) = Calming (since_mark m j) (quiet_mark m j)
 next_mark m j (Burst a p) = Bursting (burst_mark m j)
 next_mark m j (Settling b p s) = Lying (still_mark m j)
 next_mark m j (Refractory u) = Waiting (end_mark m j)

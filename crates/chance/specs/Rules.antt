@@ -1,5 +1,5 @@
 -- What the counts come to. Theorems in proofs/Rules.antt.
-use Rattle.std.specs.Prelude.{◌≡◌, true, List, ℕ, suc, ◌*◌, ◌^◌, ◌≤◌, length}
+use Rattle.std.specs.Prelude.{◌≡◌, true, List, ℕ, suc, ◌*◌, ◌^◌, ◌≤◌, length, Ok}
 use Rattle.num.specs.Sum.{total}
 use Rattle.fall.specs.declared.FallConfig.{FallConfig}
 use Rattle.fall.specs.Fall.{new_detector}
@@ -12,7 +12,8 @@ SequencesAreAll = (choices : List ℕ) (n : ℕ) → length (sequences choices n
 -- and where nothing is refused the counts total them
 abbrev pub CountsTotalAllSequences : Type 0
 CountsTotalAllSequences = (c : FallConfig) (choices : List ℕ) (spacing n : ℕ)
-    → allowed (length choices) spacing n ≡ true → total (chances_answer c choices spacing n).counts ≡ length choices ^ n
+    → allowed (length choices) spacing n ≡ true
+    → (counts : List ℕ) × ((chances_answer c choices spacing n ≡ Ok counts) × (total counts ≡ length choices ^ n))
 
 -- the first event takes four frames and each later one five, so that 24 frames make at most five events
 abbrev pub EventsTakeFrames : Type 0

@@ -1,13 +1,12 @@
 // Replays recorded questions of how often chance makes a fall: a line for each. `stdout` holds the counts of the Rust's machine.
 #![tactic(auto)]
 
-ghost use Rattle.std.specs.Prelude.{◌≡◌, length};
+ghost use Rattle.std.specs.Prelude.{◌≤◌, length};
 
-use cases::{Case, number, text};
-use chance::{COUNTS, Chances};
+use chance::COUNTS;
 use fall::FallConfig;
+use refusal::Refusal;
 use std::io;
-use std::io::Input;
 
 // The choices begin behind the settings, the spacing and the number of frames.
 const HEAD: usize = 62;
@@ -18,7 +17,9 @@ const MOST_CHOICES: usize = 8;
 // The longest case.
 const LONGEST: usize = 78;
 
-fn config(bytes: &[u8; LONGEST]) -> FallConfig {
+fn config(bytes: &[u8]) -> FallConfig
+    requires { 46 ≤ length bytes.now }
+{
     FallConfig {
         active_permille: num::steps::u16_at(bytes, 0),
         burst_permille: num::steps::u16_at(bytes, 2),
@@ -31,66 +32,31 @@ fn config(bytes: &[u8; LONGEST]) -> FallConfig {
     }
 }
 
-fn all_choices(bytes: &[u8; LONGEST]) -> [u16; MOST_CHOICES]
-    ensures { length result ≡ 8 }
-{
-    let mut choices = [0u16; MOST_CHOICES];
-    for k in 0..MOST_CHOICES {
-        let w = num::steps::u16_at(bytes, HEAD + 2 * k);
-        choices[k] = w;
-    }
-    choices
-}
-
-fn line(rt: &impl Print, r: Chances) -> io::Result<()> {
-    if 0 < r.refusal {
-        text(rt, b"refused")?;
-        number(rt, r.refusal as u64)?;
-    } else {
-        text(rt, b"chances")?;
-        let counts = r.counts;
-        for k in 0..COUNTS {
-            number(rt, counts[k])?;
+fn line(rt: &impl Print, answer: Result<[u64; COUNTS], Refusal>) -> io::Result<()> {
+    match answer {
+        Ok(counts) => {
+            print!(rt; "chances")?;
+            for count in &counts {
+                print!(rt; " {count}")?;
+            }
+            println!(rt; "")
         }
+        Err(refusal) => println!(rt; "refused {}", refusal.number()),
     }
-    cases::end_line(rt)
 }
 
 // A case: the settings (46 bytes), the spacing and the number of frames (8 bytes each), then the choices, two bytes each.
-fn replay(rt: &impl Print, bytes: &[u8; LONGEST], len: usize) -> io::Result<()> {
-    if len < HEAD {
+fn replay(rt: &impl Print, case: &[u8]) -> io::Result<()> {
+    if !(HEAD..=LONGEST).contains(&case.len()) {
         return Ok(());
     }
-    if LONGEST < len {
-        return Ok(());
-    }
-    let choices = all_choices(bytes);
-    let spacing = num::steps::u64_at(bytes, 46);
-    let n = num::steps::u64_at(bytes, 54) as usize;
-    let k = (len - HEAD) / 2;
-    line(rt, chance::count(config(bytes), &choices[0..k], spacing, n))
+    let choices = cases::words::<MOST_CHOICES>(&case[HEAD..]);
+    let k = (case.len() - HEAD) / 2;
+    let spacing = num::steps::u64_at(case, 46);
+    let n = num::steps::u64_at(case, 54) as usize;
+    line(rt, chance::count(config(case), &choices[..k], spacing, n))
 }
-
-// The next case, and whether there was one.
-fn next(rt: &(impl Input + Print)) -> io::Result<bool> {
-    let mut buf = [0u8; LONGEST];
-    match cases::next(rt, &mut buf)? {
-        Case::End => Ok(false),
-        Case::Bytes(len) => {
-            replay(rt, &buf, len)?;
-            Ok(true)
-        }
-    }
-}
-
-// The most cases that are replayed.
-const MOST: usize = 100000;
 
 fn main(rt: HostRuntime) -> io::Result<()> {
-    for _i in 0..MOST {
-        if !next(&rt)? {
-            return Ok(());
-        }
-    }
-    Ok(())
+    cases::each::<LONGEST, _>(&rt, |case| replay(&rt, case))
 }

@@ -1,7 +1,7 @@
 -- The entries of a layout: how many there are, and which; and the layouts of the tags. Assumes nothing.
 use mathlib.Core.Path.{◌≡◌, refl, sym, ap, ◌∙◌}
 use mathlib.Core.Bool.{true}
-use mathlib.Core.List.{◌++◌}
+use mathlib.Core.List.{List, ◌∷◌, ◌++◌, map, map-append}
 use mathlib.Core.Logic.{by_cases}
 use Prim.Native.Nat.{ℕ, zero, suc, ◌+◌, ◌-◌, ◌≤◌, ◌<◌}
 use native.Mathlib.Nat.{le_of_suc-le-suc, not-suc-le-zero, add-zero}
@@ -9,8 +9,8 @@ use native.Mathlib.Decide.{dec_lt}
 use native.Mathlib.Omega.{arith}
 use lib.Dec.{leb}
 use borrow.Author.Tests.{le-leb, leb-true}
-use lib.ListN.{length, get_or, length-append, get_or-append}
-use lib.Seq.{get_or-append-add}
+use lib.ListN.{length, get_or, take, drop, length-append, get_or-append}
+use lib.Seq.{drop-cons, get_or-append-add}
 use Rattle.num.proofs.Logic.{both}
 use Rattle.num.proofs.Table.{between_le}
 use Rattle.csi.specs.Layout.{max_subcarriers, layouts, known, layout_of, entries_of, up_from, Usable}
@@ -26,6 +26,14 @@ unfolding up_from
 get_or-up_from a zero k h = absurd (not-suc-le-zero h)
 get_or-up_from a (suc n) zero h = sym (add-zero a)
 get_or-up_from a (suc n) (suc k) h = get_or-up_from (suc a) n k (le_of_suc-le-suc h) ∙ omega arith
+
+-- what stands at those places is a part of the list
+pub map-up_from : (xs : List ℕ) (a n : ℕ) → a + n ≤ length xs → map (λ k. get_or xs k 0) (up_from a n) ≡ take n (drop a xs)
+unfolding up_from
+map-up_from xs a zero h = refl
+map-up_from xs a (suc n) h =
+    let inside : a < length xs = omega arith in
+    ap (λ ys. get_or xs a 0 ∷ ys) (map-up_from xs (suc a) n (omega arith)) ∙ rw (drop-cons xs a 0 inside)
 
 module _ (l : Layout) where
   abbrev n1 : ℕ
@@ -55,6 +63,13 @@ module _ (l : Layout) where
       ∙ get_or-append-add (up_from l.start n1) (up_from l.start2 n2) (k - n1) 0
       ∙ get_or-up_from l.start2 n2 (k - n1) (omega arith))
 
+  -- the elements at the entries in use: two parts of the list
+  pub parts : (xs : List ℕ) → Usable l → l.entries ≤ length xs
+      → map (λ k. get_or xs k 0) (entries_of l) ≡ take n1 (drop l.start xs) ++ take n2 (drop l.start2 xs)
+  unfolding entries_of
+  parts xs u h =
+      rw (map-append, map-up_from xs l.start n1 (omega (arith, u.up, u.end)), map-up_from xs l.start2 n2 (omega (arith, u.up2, u.end2)))
+
   -- each entry in use is there
   pub inside : Usable l → (k : ℕ) → k < length (entries_of l) → get_or (entries_of l) k 0 < l.entries
   inside u k h =
@@ -82,6 +97,8 @@ module _ (tag : ℕ) (e : known tag ≡ true) where
       record {
         some = between_le (λ t. 1) (λ t. length (entries_of (layout_of t))) 1 (length layouts) tt tag low high;
         most = between_le (λ t. length (entries_of (layout_of t))) (λ t. max_subcarriers) 1 (length layouts) tt tag low high;
+        up = between_le (λ t. (layout_of t).start) (λ t. (layout_of t).end) 1 (length layouts) tt tag low high;
+        up2 = between_le (λ t. (layout_of t).start2) (λ t. (layout_of t).end2) 1 (length layouts) tt tag low high;
         end = between_le (λ t. (layout_of t).end) (λ t. (layout_of t).entries) 1 (length layouts) tt tag low high;
         end2 = between_le (λ t. (layout_of t).end2) (λ t. (layout_of t).entries) 1 (length layouts) tt tag low high;
         entries = between_le (λ t. (layout_of t).entries) (λ t. max_subcarriers) 1 (length layouts) tt tag low high;

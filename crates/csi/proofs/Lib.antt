@@ -4,3 +4,4 @@ pub mod Padded
 pub mod Rules
 pub mod Scaled
 pub mod Shape
+pub mod Sums

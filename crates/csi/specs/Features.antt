@@ -1,12 +1,13 @@
 -- The amplitudes of a sample, their mean and variance, and the same divided by their mean (document 01, "Amplitudes and baseline";
 -- csi.rs, `CsiFrame::features` and `Features::normalised`). Assumes nothing.
-use Rattle.std.specs.Prelude.{cond, List, ◌++◌, map, ℕ, ◌+◌, ◌-◌, ◌*◌, ◌/◌, min, ltb, eqb, ℤ, nat_abs, length, get_or, take, replicate}
+use Rattle.std.specs.Result.{result_and}
+use Rattle.std.specs.Prelude.{Result, Ok, Err, cond, List, ◌++◌, map, ℕ, ◌+◌, ◌-◌, ◌*◌, ◌/◌, min, ltb, eqb, ℤ, nat_abs, length, get_or, take, replicate}
 use Rattle.num.specs.Root.{root}
 use Rattle.num.specs.Sum.{total, apart, square}
 use Rattle.num.specs.Wrap.{signed8}
-use Rattle.csi.specs.Layout.{max_subcarriers, layout_of, entries_of, frame_refusal}
+use Rattle.refusal.specs.declared.Refusal.{Refusal}
+use Rattle.csi.specs.Layout.{max_subcarriers, layout_of, entries_of, frame_check}
 use Rattle.csi.specs.declared.Features.{Features}
-use Rattle.csi.specs.declared.Measured.{Measured}
 
 -- the square of the signed number that a byte holds
 abbrev pub byte_square : ℕ → ℕ
@@ -67,24 +68,15 @@ normalised_of f =
     cond (eqb (total (used f)) 0) f
     (describe (map (scale f.count (total (used f))) (used f)))
 
--- ---- what the calls answer: refusal 0 with the features, or the refusal's number with nothing
-abbrev pub nothing : Features
-nothing = record { amplitude = replicate max_subcarriers 0; count = 0; mean = 0; variance = 0 }
+-- ---- what the calls answer
+unfoldable pub features_answer : List ℕ → (tag : ℕ) → Result Features Refusal
+unfolding frame_check features_of
+features_answer iq tag = result_and (frame_check (length iq) tag) (Ok (features_of iq tag))
 
-abbrev pub refused : ℕ → Measured
-refused number = record { refusal = number; features = nothing }
+-- at most 64 amplitudes are said to be in use
+abbrev pub count_check : Features → Result (Unit {0}) Refusal
+count_check f = cond (ltb max_subcarriers f.count) (Err Refusal.Count) (Ok tt)
 
-abbrev pub accepted : Features → Measured
-accepted f = record { refusal = 0; features = f }
-
--- the refusal's number, or what there is where it is 0
-abbrev pub answered : (refusal : ℕ) → Features → Measured
-answered number f = cond (eqb number 0) (accepted f) (refused number)
-
-unfoldable pub features_answer : List ℕ → (tag : ℕ) → Measured
-unfolding frame_refusal features_of
-features_answer iq tag = answered (frame_refusal (length iq) tag) (features_of iq tag)
-
-unfoldable pub normalised_answer : Features → Measured
+unfoldable pub normalised_answer : Features → Result Features Refusal
 unfolding normalised_of
-normalised_answer f = cond (ltb max_subcarriers f.count) (refused 7) (accepted (normalised_of f))
+normalised_answer f = cond (ltb max_subcarriers f.count) (Err Refusal.Count) (Ok (normalised_of f))

@@ -1,6 +1,7 @@
 -- Which entries of a sample's I/Q bytes carry data, by the layout tag (document 01, "The sample"; csi.rs, `Layout`). Assumes nothing.
-use Rattle.std.specs.Prelude.{Bool, cond, not, ◌&&◌, List, [], ◌∷◌, ◌++◌, ℕ, zero, suc, ◌-◌, ◌*◌, ◌≤◌, leb, ltb, length, get_or}
+use Rattle.std.specs.Prelude.{Option, Some, None, Result, Ok, Err, Bool, cond, not, ◌&&◌, List, [], ◌∷◌, ◌++◌, ℕ, zero, suc, ◌-◌, ◌*◌, ◌≤◌, leb, ltb, length, get_or}
 use Rattle.num.specs.Limits as limits
+use Rattle.refusal.specs.declared.Refusal.{Refusal}
 use Rattle.csi.specs.declared.Layout.{Layout}
 
 -- the most subcarriers that features hold
@@ -27,6 +28,11 @@ unfoldable pub layout_of : ℕ → Layout
 unfolding layouts
 layout_of tag = get_or (none ∷ layouts) tag none
 
+-- the same where the tag is known
+unfoldable pub layout_for : ℕ → Option Layout
+unfolding known layout_of
+layout_for tag = cond (known tag) (Some (layout_of tag)) None
+
 -- n numbers from a on
 unfoldable pub up_from : (a n : ℕ) → List ℕ
 up_from a zero = []
@@ -46,10 +52,17 @@ unfoldable pub frame_refusal : (len tag : ℕ) → ℕ
 unfolding known layout_of
 frame_refusal len tag = cond (not (known tag)) 4 (cond (ltb len (need_of (layout_of tag))) 5 0)
 
--- what holds of the layout of a known tag: it uses 1 to 64 of its entries, of which there are 64 at most
+-- the same by the reasons' names
+unfoldable pub frame_check : (len tag : ℕ) → Result (Unit {0}) Refusal
+unfolding known layout_of
+frame_check len tag = cond (not (known tag)) (Err Refusal.Tag) (cond (ltb len (need_of (layout_of tag))) (Err Refusal.Iq) (Ok tt))
+
+-- what holds of the layout of a known tag: its ranges go up, it uses 1 to 64 of its entries, of which there are 64 at most
 pub record Usable (l : Layout) : Type 0 where
   pub some : 1 ≤ length (entries_of l)
   pub most : length (entries_of l) ≤ max_subcarriers
+  pub up : l.start ≤ l.end
+  pub up2 : l.start2 ≤ l.end2
   pub end : l.end ≤ l.entries
   pub end2 : l.end2 ≤ l.entries
   pub entries : l.entries ≤ max_subcarriers

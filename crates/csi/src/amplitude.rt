@@ -61,16 +61,14 @@ pub(crate) fn amplitude(im: u8, re: u8) -> u16
 }
 
 // The amplitude of each entry, with data or not.
+#[tactic(auto, unfolding(crate::specs::Features::amplitude_at))]
 pub(crate) fn every(iq: &[u8], entries: usize) -> [u16; crate::MAX_SUBCARRIERS]
     requires { (entries ≤ max_subcarriers) × (2 * entries ≤ length iq.now) }
     ensures { (k : ℕ) → k < entries → get_or result k 0 ≡ amplitude_at iq.now k }
 {
     let mut all = [0u16; crate::MAX_SUBCARRIERS];
-    let mut k = 0;
-    while k < entries {
-        let a = amplitude(iq[2 * k], iq[2 * k + 1]);
-        all[k] = a;
-        k += 1;
+    for k in 0..entries {
+        all[k] = amplitude(iq[2 * k], iq[2 * k + 1]);
     }
     all
 }

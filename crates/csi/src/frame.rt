@@ -1,33 +1,31 @@
 // The features of one channel sample (csi.rs, `CsiFrame`): its I/Q bytes as a slice, beside the layout tag.
-ghost use Rattle.std.specs.Prelude.{◌≡◌};
+ghost use Rattle.std.specs.Prelude.{◌≡◌, length};
+ghost use Rattle.refusal.specs.Refusal.{answered_number};
 ghost use Rattle.csi.specs.Features.{features_answer};
-ghost use Rattle.csi.specs.Layout.{frame_refusal};
+ghost use Rattle.csi.specs.Layout.{frame_check, frame_refusal};
 
-use crate::{Layout, Measured};
+use crate::{Features, Layout};
+use refusal::Refusal;
 
-// Whether so many I/Q bytes have features under this tag: 0, or the refusal 4 (unknown tag) or 5 (fewer bytes than the layout needs).
-pub fn refusal(len: usize, tag: u8) -> u8
-    ensures { result ≡ frame_refusal len tag }
+// Whether so many I/Q bytes have features under this tag. Refused: an unknown tag, and fewer bytes than the layout needs.
+#[tactic(auto, unfolding(crate::specs::Layout::frame_check, crate::specs::Layout::frame_refusal, crate::specs::Layout::layout_for))]
+pub fn check(len: usize, tag: u8) -> Result<(), Refusal>
+    ensures answer { result ≡ frame_check len tag }
+    ensures number { answered_number result ≡ frame_refusal len tag }
 {
-    if Layout::is_known(tag) {
-        if len < crate::steps::layout_of(tag).need() {
-            return 5;
-        }
-        return 0;
+    let layout = Layout::of(tag).ok_or(Refusal::Tag)?;
+    if len < layout.need() {
+        return Err(Refusal::Iq);
     }
-    4
+    Ok(())
 }
 
-// The features of the I/Q bytes of a sample with this layout tag. Refusals: 4 unknown tag, 5 fewer bytes than the layout needs.
-pub fn features(iq: &[u8], tag: u8) -> Measured
-    ensures { result ≡ features_answer iq.now tag }
+// The features of the I/Q bytes of a sample with this layout tag. Refused as by `check`.
+#[tactic(auto, unfolding(crate::specs::Features::features_answer))]
+pub fn features(iq: &[u8], tag: u8) -> Result<Features, Refusal>
+    ensures answer { result ≡ features_answer iq.now tag }
+    ensures number { answered_number result ≡ frame_refusal (length iq.now) tag }
 {
-    let number = refusal(iq.len(), tag);
-    if number == 0 {
-        return Measured {
-            refusal: 0,
-            features: crate::steps::features(iq, tag),
-        };
-    }
-    Measured::refused(number)
+    check(iq.len(), tag)?;
+    Ok(crate::steps::features(iq, tag))
 }

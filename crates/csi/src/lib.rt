@@ -1,9 +1,11 @@
 // Amplitudes of a channel sample (csi.rs).
 #![tactic(auto)]
 
-ghost use Rattle.std.specs.Prelude.{◌≡◌, ◌-◌, ◌*◌, ◌<◌, length};
-ghost use Rattle.csi.specs.Features.{normalised_answer, refused};
-ghost use Rattle.csi.specs.Layout.{known, entries_of, need_of};
+ghost use Rattle.std.specs.Prelude.{◌≡◌, ◌-◌, ◌≤◌, length};
+ghost use Rattle.csi.specs.Features.{count_check, normalised_answer, used};
+ghost use Rattle.csi.specs.Layout.{max_subcarriers, layout_for, entries_of, need_of};
+
+use refusal::Refusal;
 
 mod amplitude;
 pub mod frame;
@@ -16,7 +18,7 @@ pub const MAX_SUBCARRIERS: usize = num::MAX_SUBCARRIERS;
 
 // Which entries of the I/Q bytes carry data: start to end and start2 to end2, without the upper ends. Entry k is the bytes
 // 2k (imaginary) and 2k + 1 (real); `entries` is how many of them the bytes hold.
-#[derive(Clone, Copy)]
+#[derive(Clone, Copy, Debug, PartialEq, Eq)]
 pub struct Layout {
     pub start: u8,
     pub end: u8,
@@ -38,13 +40,9 @@ const LAYOUTS: [Layout; TAGS] = [
 
 // How many numbers a range has.
 fn span(start: u8, end: u8) -> usize
-    ensures { (result ≡ end - start) × (result < 256) }
+    ensures { result ≡ end - start }
 {
-    if start < end {
-        (end - start) as usize
-    } else {
-        0
-    }
+    usize::from(end.saturating_sub(start))
 }
 
 impl Layout {
@@ -80,18 +78,17 @@ impl Layout {
         entries: 64,
     };
 
-    // Whether a tag has a layout.
-    pub fn is_known(tag: u8) -> bool
-        ensures { result ≡ known tag }
+    // The layout of a tag, if it has one.
+    #[tactic(auto, unfolding(crate::specs::Layout::layout_for, crate::specs::Layout::known, crate::specs::Layout::layouts, crate::specs::Layout::layout_of))]
+    pub fn of(tag: u8) -> Option<Self>
+        ensures { result ≡ layout_for tag }
     {
-        if tag == 0 {
-            return false;
-        }
-        tag as usize <= TAGS
+        let row = usize::from(tag).checked_sub(1)?;
+        LAYOUTS.get(row).copied()
     }
 
     // The number of entries in use.
-    pub(crate) fn count(self) -> usize
+    pub fn count(self) -> usize
         ensures { result ≡ length (entries_of self) }
     {
         span(self.start, self.end) + span(self.start2, self.end2)
@@ -101,7 +98,7 @@ impl Layout {
     pub(crate) fn need(self) -> usize
         ensures { result ≡ need_of self }
     {
-        2 * self.entries as usize
+        2 * usize::from(self.entries)
     }
 }
 
@@ -115,41 +112,31 @@ pub struct Features {
     pub variance: u32,
 }
 
-// What a call answers: refusal 0 and the features, or a refusal's number and no features.
-#[repr(C)]
-#[derive(Clone, Copy)]
-pub struct Measured {
-    pub refusal: u8,
-    pub features: Features,
-}
-
-impl Measured {
-    pub fn refused(number: u8) -> Self
-        ensures { result ≡ refused number }
-    {
-        Measured {
-            refusal: number,
-            features: Features {
-                amplitude: [0u16; MAX_SUBCARRIERS],
-                count: 0,
-                mean: 0,
-                variance: 0,
-            },
-        }
-    }
-}
-
 impl Features {
-    // The same features divided by their mean; unchanged where the amplitudes sum up to 0. Refusal 7: count above 64.
-    pub fn normalised(self) -> Measured
+    // The amplitudes in use.
+    pub(crate) fn used(&self) -> &[u16]
+        requires { self.now.count ≤ max_subcarriers }
+        ensures { result.now ≡ used self.now }
+    {
+        &self.amplitude[..usize::from(self.count)]
+    }
+
+    // Whether no more than 64 amplitudes are said to be in use.
+    pub fn check(&self) -> Result<(), Refusal>
+        ensures { result ≡ count_check self.now }
+    {
+        if MAX_SUBCARRIERS < usize::from(self.count) {
+            return Err(Refusal::Count);
+        }
+        Ok(())
+    }
+
+    // The same features divided by their mean; unchanged where the amplitudes sum up to 0. Refused as by `check`.
+    #[tactic(auto, unfolding(crate::specs::Features::normalised_answer))]
+    pub fn normalised(self) -> Result<Features, Refusal>
         ensures { result ≡ normalised_answer self }
     {
-        if MAX_SUBCARRIERS < self.count as usize {
-            return Measured::refused(7);
-        }
-        Measured {
-            refusal: 0,
-            features: steps::normalised(self),
-        }
+        self.check()?;
+        Ok(steps::normalised(self))
     }
 }

@@ -1,16 +1,16 @@
 // Amplitudes in 1,024ths of their mean: a·1024·n/Σa. The quotient 1024·n/Σa is taken once, in 2^40ths and rounded up; its products
 // with the amplitudes have the same whole parts as the quotients.
-ghost use Rattle.std.specs.Prelude.{◌≡◌, ◌+◌, ◌*◌, ◌/◌, ◌^◌, min, ◌≤◌, ◌<◌, map, length, take};
+ghost use Rattle.std.specs.Prelude.{◌≡◌, ◌+◌, ◌*◌, ◌/◌, ◌^◌, min, ◌≤◌, ◌<◌, map, length};
 ghost use Rattle.num.specs.Sum.{total};
 ghost use Rattle.csi.specs.Features.{scale, describe};
 ghost use Rattle.csi.specs.Layout.{max_subcarriers};
 
-use crate::Features;
+use crate::{Features, MAX_SUBCARRIERS};
 
 // What stands for the mean, and the largest amplitude.
 const UNIT: u64 = 1024;
 
-const MAX_AMPLITUDE: u32 = 65535;
+const MAX_AMPLITUDE: u64 = 65535;
 
 // 2^40, which is above 65,535 · 65,535 · 64.
 const ONE: u64 = 1099511627776;
@@ -24,32 +24,23 @@ fn ratio(n: u64, total: u64) -> u64
 }
 
 // The whole part of a product with a ratio, at most 65,535.
-fn scaled(a: u32, ratio: u64) -> u32
+fn scaled(a: u16, ratio: u64) -> u16
     requires { a * ratio < 2 ^ 64 }
-    ensures { (result ≡ min 65535 (a * ratio / 2 ^ 40)) × (result ≤ 65535) }
+    ensures { result ≡ min 65535 (a * ratio / 2 ^ 40) }
 {
-    let v = a as u64 * ratio / ONE;
-    if v < MAX_AMPLITUDE as u64 {
-        v as u32
-    } else {
-        MAX_AMPLITUDE
-    }
+    (u64::from(a) * ratio / ONE).min(MAX_AMPLITUDE) as u16
 }
 
-// The first n amplitudes, whose sum is `sum`, in 1,024ths of their mean.
-pub(crate) fn divided(amplitude: &[u16; crate::MAX_SUBCARRIERS], n: usize, sum: u32) -> Features
-    requires { (1 ≤ n) × (n ≤ max_subcarriers) × (1 ≤ sum) × (sum ≤ 65535 * n) × (sum ≡ total (take n amplitude.now)) × (length amplitude.now ≡ max_subcarriers) }
-    ensures { result ≡ describe (map (scale n sum) (take n amplitude.now)) }
+// The amplitudes, whose sum is `sum`, in 1,024ths of their mean.
+pub(crate) fn divided(amplitudes: &[u16], sum: u32) -> Features
+    requires { (1 ≤ length amplitudes.now) × (length amplitudes.now ≤ max_subcarriers) × (1 ≤ sum) × (sum ≡ total amplitudes.now) }
+    ensures { result ≡ describe (map (scale (length amplitudes.now) sum) amplitudes.now) }
 {
-    let factor = ratio(n as u64, sum as u64);
-    let mut out = [0u16; crate::MAX_SUBCARRIERS];
-    let mut scaled_sum: u32 = 0;
-    let mut k = 0;
-    while k < n {
-        let v = scaled(crate::moments::wide(amplitude[k]), factor);
-        out[k] = v as u16;
-        scaled_sum += v;
-        k += 1;
+    let n = amplitudes.len();
+    let factor = ratio(n as u64, u64::from(sum));
+    let mut out = [0u16; MAX_SUBCARRIERS];
+    for k in 0..n {
+        out[k] = scaled(amplitudes[k], factor);
     }
-    crate::moments::described(out, n, scaled_sum)
+    crate::moments::described(out, n)
 }

@@ -6,11 +6,12 @@ ghost use Rattle.csi.specs.Layout.{max_subcarriers, known, layout_of, entries_of
 use crate::{Features, Layout};
 
 // The layout of a known tag.
+#[tactic(auto, unfolding(crate::specs::Layout::layout_for))]
 pub fn layout_of(tag: u8) -> Layout
     requires { known tag ≡ true }
     ensures { result ≡ layout_of tag }
 {
-    crate::LAYOUTS[(tag - 1) as usize]
+    Layout::of(tag).unwrap()
 }
 
 // The k-th entry in use (`Layout::indices`).
@@ -20,9 +21,9 @@ pub fn entry(layout: Layout, k: usize) -> usize
 {
     let n = crate::span(layout.start, layout.end);
     if k < n {
-        layout.start as usize + k
+        usize::from(layout.start) + k
     } else {
-        layout.start2 as usize + (k - n)
+        usize::from(layout.start2) + (k - n)
     }
 }
 
@@ -33,26 +34,25 @@ pub fn amplitude(im: i8, re: i8) -> u16
     crate::amplitude::amplitude(num::i8_to_byte(im), num::i8_to_byte(re))
 }
 
-// The features of I/Q bytes that `frame::refusal` does not refuse under this tag.
+// The features of I/Q bytes that `frame::check` does not refuse under this tag.
 pub fn features(iq: &[u8], tag: u8) -> Features
     requires { frame_refusal (length iq.now) tag ≡ 0 }
     ensures { result ≡ features_of iq.now tag }
 {
     let layout = layout_of(tag);
-    let every = crate::amplitude::every(iq, layout.entries as usize);
+    let every = crate::amplitude::every(iq, usize::from(layout.entries));
     crate::moments::picked(&every, layout)
 }
 
 // The features divided by their mean; unchanged where the amplitudes sum up to 0.
+#[tactic(auto, unfolding(crate::specs::Features::normalised_of))]
 pub fn normalised(f: Features) -> Features
     requires { f.count ≤ max_subcarriers }
     ensures { result ≡ normalised_of f }
 {
-    let n = f.count as usize;
-    let amplitude = f.amplitude;
-    let total = crate::moments::total_of(&amplitude, n);
+    let total = crate::moments::total_of(f.used());
     if total == 0 {
         return f;
     }
-    crate::normal::divided(&amplitude, n, total)
+    crate::normal::divided(f.used(), total)
 }

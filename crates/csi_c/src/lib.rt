@@ -1,37 +1,40 @@
 // Calls of csi from C and Rust.
 #![tactic(auto)]
 
-ghost use Rattle.std.specs.Prelude.{◌≡◌, length};
-ghost use Rattle.csi.specs.Features.{features_of, normalised_of, features_answer, normalised_answer, answered};
-ghost use Rattle.csi.specs.Layout.{frame_refusal};
+ghost use Rattle.std.specs.Prelude.{◌≡◌};
+ghost use Rattle.csi.specs.Features.{features_answer, normalised_answer};
+ghost use Rattle.csi_c.specs.Watched.{watched_answer};
+ghost use Rattle.measured.specs.Measured.{measured};
 
-use csi::{Features, Measured};
+use csi::Features;
+use measured::Measured;
+use refusal::Refusal;
 
 #[unsafe(no_mangle)]
 pub extern "C" fn csi_features(iq: &[u8], tag: u8) -> Measured
-    ensures { result ≡ features_answer iq.now tag }
+    ensures { result ≡ measured (features_answer iq.now tag) }
 {
-    csi::frame::features(iq, tag)
+    csi::frame::features(iq, tag).into()
 }
 
 #[unsafe(no_mangle)]
 pub extern "C" fn csi_normalised(f: Features) -> Measured
-    ensures { result ≡ normalised_answer f }
+    ensures { result ≡ measured (normalised_answer f) }
 {
-    f.normalised()
+    f.normalised().into()
 }
 
 // Both, as the room takes them: judged once, then by steps.
+fn watched(iq: &[u8], tag: u8) -> Result<Features, Refusal>
+    ensures { result ≡ watched_answer iq.now tag }
+{
+    csi::frame::check(iq.len(), tag)?;
+    Ok(csi::steps::normalised(csi::steps::features(iq, tag)))
+}
+
 #[unsafe(no_mangle)]
 pub extern "C" fn csi_watched(iq: &[u8], tag: u8) -> Measured
-    ensures { result ≡ answered (frame_refusal (length iq.now) tag) (normalised_of (features_of iq.now tag)) }
+    ensures { result ≡ measured (watched_answer iq.now tag) }
 {
-    let number = csi::frame::refusal(iq.len(), tag);
-    if number == 0 {
-        return Measured {
-            refusal: 0,
-            features: csi::steps::normalised(csi::steps::features(iq, tag)),
-        };
-    }
-    Measured::refused(number)
+    watched(iq, tag).into()
 }

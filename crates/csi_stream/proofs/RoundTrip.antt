@@ -12,8 +12,7 @@ use Rattle.num.specs.Wrap.{signed8}
 use Rattle.num.proofs.Byte.{signed-byte, byte_signed}
 use Rattle.num.proofs.Words.{le-le_bytes, le_bytes-le_at}
 use Rattle.csi_stream.specs.declared.Sample.{Sample}
-use Rattle.csi_stream.specs.declared.Decoded.{Decoded}
-use Rattle.csi_stream.specs.declared.Encoded.{Encoded}
+use Rattle.std.specs.Prelude.{Ok}
 use Rattle.csi_stream.specs.Wire.{encoded, sample_of}
 use Rattle.csi_stream.specs.Codec.{legal, decode_of, encode_into}
 use Rattle.csi_stream.specs.RoundTrip.{Sendable, EncodedDecodes, DecodedEncodes}
@@ -46,7 +45,7 @@ is-legal : (s : Sample) (iq : List ℕ) → length iq ≤ 128 → legal (encoded
 unfolding encoded
 is-legal s iq few = simp (le-leb 13 (length (encoded s iq)) (omega arith), le-leb (length iq) 128 few, eq-eqb (length (encoded s iq)) (13 + length iq) (length-encode s iq))
 
-decode-encode : (s : Sample) (iq : List ℕ) → Sendable s iq → decode_of (encoded s iq) ≡ Decoded.Accepted s (length iq)
+decode-encode : (s : Sample) (iq : List ℕ) → Sendable s iq → decode_of (encoded s iq) ≡ Ok (s, length iq)
 unfolding encoded
 decode-encode s iq f =
     sym (accepted (encoded s iq) s.at s.rssi (is-legal s iq f.few) (sym (time-bytes s iq f.time)) (sym (signed-byte s.rssi f.strength)))
@@ -84,7 +83,7 @@ decoded-encodes r out byte e room =
     let total : 13 + length (drop 13 r) ≡ length r = omega (arith, n, t) in
     let w = written (sample_of r) (drop 13 r) out (omega (arith, n, t)) (omega (arith, total, room)) in
     record {
-      accepted = sym (accepted r (le_at r 4 8) (signed8 (get_or r 2 0)) e refl refl) ∙ ap (Decoded.Accepted (sample_of r)) (sym n);
-      written = sym w.0 ∙ ap Encoded.Written total;
+      accepted = sym (accepted r (le_at r 4 8) (signed8 (get_or r 2 0)) e refl refl) ∙ ap (λ k. Ok (sample_of r, k)) (sym n);
+      written = sym w.0 ∙ ap Ok total;
       bytes = rw (← w.1, encode-legal r byte e, total);
     }

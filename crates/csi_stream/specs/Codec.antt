@@ -1,10 +1,11 @@
 -- What decoding and encoding answer, and what encoding leaves (`Sample::decode`, `Sample::iq`, `Sample::encode`). Refusal 3: a malformed
 -- sample. Refusal 6: too little space. Assumes nothing.
-use Rattle.std.specs.Prelude.{ℕ, ◌+◌, ◌≡◌, List, [], ◌++◌, Bool, true, false, cond, ◌&&◌, length, get_or, drop, ltb, leb, eqb, ℤ}
+use Rattle.std.specs.Prelude.{Result, Ok, Err, ℕ, ◌+◌, ◌≡◌, List, [], ◌++◌, Bool, true, false, cond, ◌&&◌, length, get_or, drop, ltb, leb, eqb}
 use Rattle.std.specs.Borrow.{Bor}
+use Rattle.refusal.specs.Refusal.{number}
+use Rattle.refusal.specs.declared.Refusal.{Refusal}
 use Rattle.csi_stream.specs.declared.Sample.{Sample}
-use Rattle.csi_stream.specs.declared.Decoded.{Decoded}
-use Rattle.csi_stream.specs.declared.Encoded.{Encoded}
+use Rattle.csi_stream.specs.declared.EncodeError.{EncodeError}
 use Rattle.csi_stream.specs.Wire.{version, header_len, max_iq, encoded, sample_of}
 
 -- a record that is one sample: a whole header, version 1, at most 128 I/Q bytes, and as many as byte 12 says
@@ -20,8 +21,9 @@ decode_refusal r = cond (legal r) 0 3
 abbrev pub encode_refusal : (n m : ℕ) → ℕ
 encode_refusal n m = cond (ltb max_iq n) 3 (cond (ltb m (header_len + n)) 6 0)
 
-unfoldable pub decode_of : List ℕ → Decoded
-decode_of r = cond (legal r) (Decoded.Accepted (sample_of r) (get_or r 12 0)) (Decoded.Refused 3)
+-- the sample, and how many I/Q bytes follow its header
+unfoldable pub decode_of : List ℕ → Result (Sample × ℕ) Refusal
+decode_of r = cond (legal r) (Ok (sample_of r, get_or r 12 0)) (Err Refusal.Form)
 
 -- r is the part of s from byte a on: it has those bytes, and lies where they lie, in the same block of memory and a bytes further on
 pub record PartFrom (a : ℕ) (s r : Bor (List ℕ)) : Type 0 where
@@ -33,40 +35,22 @@ pub record IqOf (s r : Bor (List ℕ)) : Type 0 where
   pub accepted : legal s.now ≡ true → PartFrom header_len s r
   pub refused : legal s.now ≡ false → r.now ≡ []
 
-unfoldable pub encode_of : (n m : ℕ) → Encoded
+-- the bytes written
+unfoldable pub encode_of : (n m : ℕ) → Result ℕ EncodeError
 encode_of n m =
-    cond (ltb max_iq n) (Encoded.Refused 3)
-    (cond (ltb m (header_len + n)) (Encoded.Short (header_len + n)) (Encoded.Written (header_len + n)))
+    cond (ltb max_iq n) (Err EncodeError.Form)
+    (cond (ltb m (header_len + n)) (Err (EncodeError.Space (header_len + n))) (Ok (header_len + n)))
 
 -- the space afterwards: the encoding and the old bytes past it, or, where it is refused, the old bytes
 unfoldable pub encode_into : Sample → List ℕ → List ℕ → List ℕ
 encode_into s iq out =
     cond (leb (length iq) max_iq && leb (header_len + length iq) (length out)) (encoded s iq ++ drop (header_len + length iq) out) out
 
--- ---- the paper's number of each answer, 0 where nothing is refused, and the values that go with it
-abbrev pub decoded_number : Decoded → ℕ
-decoded_number (Decoded.Accepted s n) = 0
-decoded_number (Decoded.Refused number) = number
+-- ---- the reason of each error, and the paper's number of an answer, 0 where nothing is refused
+abbrev pub reason : EncodeError → Refusal
+reason EncodeError.Form = Refusal.Form
+reason (EncodeError.Space need) = Refusal.Space
 
--- the sample, or what stood there before
-abbrev pub decoded_sample : Decoded → Sample → Sample
-decoded_sample (Decoded.Accepted s n) old = s
-decoded_sample (Decoded.Refused number) old = old
-
-abbrev pub decoded_len : Decoded → ℕ → ℕ
-decoded_len (Decoded.Accepted s n) old = n
-decoded_len (Decoded.Refused number) old = old
-
-abbrev pub encoded_number : Encoded → ℕ
-encoded_number (Encoded.Written total) = 0
-encoded_number (Encoded.Refused number) = number
-encoded_number (Encoded.Short need) = 6
-
--- the bytes written, or the space needed
-abbrev pub encoded_value : Encoded → ℕ
-encoded_value (Encoded.Written total) = total
-encoded_value (Encoded.Refused number) = 0
-encoded_value (Encoded.Short need) = need
-
-abbrev pub sample_from : ℕ → ℤ → ℕ → ℕ → Sample
-sample_from at rssi channel layout = record { at = at; rssi = rssi; channel = channel; layout = layout }
+abbrev pub encoded_number : Result ℕ EncodeError → ℕ
+encoded_number (Ok total) = 0
+encoded_number (Err e) = number (reason e)

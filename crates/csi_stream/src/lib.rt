@@ -6,7 +6,10 @@ pub mod steps;
 mod wire;
 
 ghost use Rattle.std.specs.Prelude.{◌≡◌, length};
-ghost use Rattle.csi_stream.specs.Codec.{decode_refusal, encode_refusal, decode_of, decoded_number, IqOf, encode_of, encoded_number, encode_into};
+ghost use Rattle.refusal.specs.Refusal.{answered_number};
+ghost use Rattle.csi_stream.specs.Codec.{decode_refusal, encode_refusal, decode_of, IqOf, reason, encode_of, encoded_number, encode_into};
+
+use refusal::Refusal;
 
 // The version byte that every encoding starts with.
 pub const VERSION: u8 = 1;
@@ -27,7 +30,7 @@ pub(crate) const TIME_AT: usize = 4;
 pub(crate) const COUNT_AT: usize = 12;
 
 // The numbers of one sample. The I/Q bytes are a slice beside it, whose length is the Rust's `len`.
-#[derive(Clone, Copy)]
+#[derive(Clone, Copy, Debug, PartialEq, Eq)]
 pub struct Sample {
     pub at: u64,
     pub rssi: i8,
@@ -35,42 +38,45 @@ pub struct Sample {
     pub layout: u8,
 }
 
-// What decoding answers: the sample and its number of I/Q bytes, or a refusal's number.
-#[derive(Clone, Copy)]
-pub enum Decoded {
-    Accepted(Sample, u8),
-    Refused(u8),
+// Why a sample is not encoded: more I/Q bytes than it carries, or too little space, with the space that it needs.
+#[derive(Clone, Copy, Debug, PartialEq, Eq)]
+pub enum EncodeError {
+    Form,
+    Space { need: usize },
 }
 
-// What encoding answers: the bytes written, a refusal's number, or refusal 6 with the space that it needs.
-#[derive(Clone, Copy)]
-pub enum Encoded {
-    Written(usize),
-    Refused(u8),
-    Short(usize),
+impl From<EncodeError> for Refusal {
+    ghost from_gives = { λ e r. r ≡ reason e };
+
+    fn from(e: EncodeError) -> Self {
+        match e {
+            EncodeError::Form => Refusal::Form,
+            EncodeError::Space { .. } => Refusal::Space,
+        }
+    }
 }
 
 impl Sample {
-    // Reads a record, the whole of which must be one sample. Any layout tag is taken.
-    pub fn decode(bytes: &[u8]) -> Decoded
+    // Reads a record, the whole of which must be one sample: its numbers, and how many I/Q bytes it has. Any layout tag is taken.
+    #[tactic(auto, using(crate::proofs::Answers::tests), unfolding(crate::specs::Codec::decode_of))]
+    pub fn decode(bytes: &[u8]) -> Result<(Self, u8), Refusal>
         ensures answer { result ≡ decode_of bytes.now }
-        ensures number { decoded_number result ≡ decode_refusal bytes.now }
+        ensures number { answered_number result ≡ decode_refusal bytes.now }
     {
         if wire::is_legal(bytes) {
-            return Decoded::Accepted(
-                Sample {
-                    at: num::steps::u64_at(bytes, TIME_AT),
-                    rssi: num::byte_to_i8(bytes[RSSI_AT]),
-                    channel: bytes[CHANNEL_AT],
-                    layout: bytes[TAG_AT],
-                },
-                bytes[COUNT_AT],
-            );
+            let sample = Sample {
+                at: num::steps::u64_at(bytes, TIME_AT),
+                rssi: num::byte_to_i8(bytes[RSSI_AT]),
+                channel: bytes[CHANNEL_AT],
+                layout: bytes[TAG_AT],
+            };
+            return Ok((sample, bytes[COUNT_AT]));
         }
-        Decoded::Refused(3)
+        Err(Refusal::Form)
     }
 
     // The I/Q bytes of a record that decodes: the part of it from byte 13 on. Of any other record, nothing.
+    #[tactic(auto, using(crate::proofs::Answers::tests))]
     pub fn iq(bytes: &[u8]) -> &[u8]
         ensures { IqOf bytes.entry result }
     {
@@ -81,23 +87,24 @@ impl Sample {
         }
     }
 
-    // Writes the sample with its I/Q bytes to the front of `out`.
-    pub fn encode(self, iq: &[u8], out: &mut [u8]) -> Encoded
+    // Writes the sample with its I/Q bytes to the front of `out`, and says how many bytes that are.
+    #[tactic(auto, unfolding(crate::specs::Codec::encode_of, crate::specs::Codec::encode_into))]
+    pub fn encode(self, iq: &[u8], out: &mut [u8]) -> Result<usize, EncodeError>
         ensures answer { result ≡ encode_of (length iq.now) (length out.old) }
         ensures number { encoded_number result ≡ encode_refusal (length iq.now) (length out.old) }
         ensures space { out.new ≡ encode_into self iq.now out.old }
     {
         let n = iq.len();
         if MAX_IQ < n {
-            return Encoded::Refused(3);
+            return Err(EncodeError::Form);
         }
         let total = HEADER_LEN + n;
         if out.len() < total {
-            return Encoded::Short(total);
+            return Err(EncodeError::Space { need: total });
         }
         let header = wire::header(self, n as u8);
         num::steps::put(&header, out);
         num::steps::put(iq, &mut out[HEADER_LEN..]);
-        Encoded::Written(total)
+        Ok(total)
     }
 }

@@ -15,7 +15,7 @@ pub(crate) fn is_legal(bytes: &[u8]) -> bool
     if bytes[0] != crate::VERSION {
         return false;
     }
-    let n = bytes[crate::COUNT_AT] as usize;
+    let n = usize::from(bytes[crate::COUNT_AT]);
     if crate::MAX_IQ < n {
         return false;
     }

@@ -4,7 +4,12 @@
 pub mod features;
 
 ghost use Rattle.std.specs.Prelude.{◌≡◌, length};
-ghost use Rattle.csi_stream.specs.Codec.{decode_of, decoded_number, decoded_sample, decoded_len, encode_of, encode_into, encoded_number, encoded_value, sample_from};
+ghost use Rattle.refusal.specs.Refusal.{answered_number};
+ghost use Rattle.csi_stream.specs.Codec.{decode_of, encode_of, encode_into, encoded_number};
+ghost use Rattle.csi_stream_c.specs.Numbers.{decoded_sample, decoded_len, encoded_value, sample_from};
+
+use csi_stream::{EncodeError, Sample};
+use refusal::Refusal;
 
 // What encoding answers: the refusal number, 0 where the sample is written, and the bytes written or needed.
 #[repr(C)]
@@ -12,6 +17,26 @@ ghost use Rattle.csi_stream.specs.Codec.{decode_of, decoded_number, decoded_samp
 pub struct CsiEncoded {
     pub refusal: u64,
     pub bytes: u64,
+}
+
+impl From<Result<usize, EncodeError>> for CsiEncoded {
+    ghost from_gives = { λ answer e. (e.refusal ≡ encoded_number answer) × (e.bytes ≡ encoded_value answer) };
+
+    fn from(answer: Result<usize, EncodeError>) -> Self {
+        match answer {
+            Ok(total) => CsiEncoded {
+                refusal: 0,
+                bytes: total as u64,
+            },
+            Err(error) => CsiEncoded {
+                refusal: u64::from(Refusal::from(error).number()),
+                bytes: match error {
+                    EncodeError::Form => 0,
+                    EncodeError::Space { need } => need as u64,
+                },
+            },
+        }
+    }
 }
 
 // Decodes a record: the refusal number, 0 where it is accepted. The numbers go through the references, which a refusal leaves.
@@ -24,21 +49,20 @@ pub extern "C" fn csi_decode(
     layout: &mut u8,
     len: &mut u8,
 ) -> u64
-    ensures number { result ≡ decoded_number (decode_of bytes.now) }
+    ensures number { result ≡ answered_number (decode_of bytes.now) }
     ensures numbers { sample_from at.new rssi.new channel.new layout.new ≡ decoded_sample (decode_of bytes.now) (sample_from at.old rssi.old channel.old layout.old) }
     ensures count { len.new ≡ decoded_len (decode_of bytes.now) len.old }
 {
-    match csi_stream::Sample::decode(bytes) {
-        csi_stream::Decoded::Accepted(s, n) => {
-            let r = s.rssi;
+    match Sample::decode(bytes) {
+        Ok((s, n)) => {
             *at = s.at;
-            *rssi = r;
+            *rssi = s.rssi;
             *channel = s.channel;
             *layout = s.layout;
             *len = n;
             0
         }
-        csi_stream::Decoded::Refused(k) => k as u64,
+        Err(reason) => u64::from(reason.number()),
     }
 }
 
@@ -55,24 +79,11 @@ pub extern "C" fn csi_encode(
     ensures answer { (result.refusal ≡ encoded_number (encode_of (length iq.now) (length out.old))) × (result.bytes ≡ encoded_value (encode_of (length iq.now) (length out.old))) }
     ensures space { out.new ≡ encode_into (sample_from at rssi channel layout) iq.now out.old }
 {
-    let s = csi_stream::Sample {
+    let sample = Sample {
         at,
         rssi,
         channel,
         layout,
     };
-    match s.encode(iq, out) {
-        csi_stream::Encoded::Written(total) => CsiEncoded {
-            refusal: 0,
-            bytes: total as u64,
-        },
-        csi_stream::Encoded::Refused(k) => CsiEncoded {
-            refusal: k as u64,
-            bytes: 0,
-        },
-        csi_stream::Encoded::Short(need) => CsiEncoded {
-            refusal: 6,
-            bytes: need as u64,
-        },
-    }
+    sample.encode(iq, out).into()
 }

@@ -6,7 +6,7 @@ use Prim.Native.Nat.{ℕ, ◌*◌, ◌≤◌, ◌<◌}
 use native.Mathlib.Omega.{arith}
 use lib.Dec.{leb, ltb}
 use lib.ListN.{length, replicate}
-use borrow.Author.Tests.{lt-ltb, le-leb, lt-leb, eq-eqb, ne_eqb}
+use borrow.Author.Tests.{le-leb, lt-leb, eq-eqb, ne_eqb}
 use Rattle.num.specs.Tests.{Tells}
 use Rattle.num.proofs.Tests.{tells-iff, tells_both, tells-le, tells-lt}
 use Rattle.window.specs.Window.{max_rows, ring_rows}
@@ -23,10 +23,6 @@ use Rattle.detector.specs.declared.Verdict.{Verdict}
 use Rattle.detector.specs.declared.Verdict.TheVariants.{Warming}
 
 -- Tests
-
--- what is left to test of a state
-pub placed-rest : (w c top : ℕ) (s : State) → s.next < w → s.filled ≤ w → s.count ≤ c → leb s.wander top ≡ is_placed w c top s
-placed-rest w c top s slot most narrow = rw (lt-ltb s.next w slot, le-leb s.filled w most, le-leb s.count c narrow)
 
 pub placed-told : (w c top : ℕ) (s : State) → Tells (is_placed w c top s) (Placed w c top s)
 placed-told w c top s =

@@ -1,6 +1,7 @@
 -- The public calls of a detector over lent rows (document 01, "Who causes which refusal"): the refusal of each, by number and in the order
 -- 1, 2, 7, and what every call answers. 0 is no refusal. Assumes nothing.
-use Rattle.std.specs.Prelude.{◌≡◌, Bool, cond, ◌&&◌, List, ℕ, ◌*◌, length, replicate, leb, eqb}
+use Rattle.std.specs.Prelude.{◌≡◌, Bool, cond, ◌&&◌, List, ℕ, ◌*◌, length, replicate, leb, eqb, Result, Ok, Err}
+use Rattle.refusal.specs.declared.Refusal.{Refusal}
 use Rattle.window.specs.Window.{max_rows, ring_rows}
 use Rattle.window.specs.Sums.{total_by}
 use Rattle.detector.specs.State.{new_state, reset_state}
@@ -13,6 +14,9 @@ use Rattle.detector.specs.declared.Verdict.TheVariants.{Warming}
 -- W frames, 1 ≤ W ≤ 8,192
 abbrev pub is_window : ℕ → Bool
 is_window w = leb 1 w && leb w max_rows
+
+abbrev pub window_check : ℕ → Result (Unit {0}) Refusal
+window_check w = cond (is_window w) (Ok tt) (Err Refusal.Settings)
 
 -- `new`: 1 for the window's size, 2 for the memory's length
 abbrev pub new_refusal : (w c bytes : ℕ) → ℕ

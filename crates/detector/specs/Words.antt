@@ -1,6 +1,7 @@
 -- A state as numbers, as C has it, and the calls over it (presence_c and phase_detector_c): a byte stands for whether there is presence, and a
 -- verdict is its number and its motion. Assumes nothing.
-use Rattle.std.specs.Prelude.{◌≡◌, Bool, true, cond, List, ℕ, leb, eqb}
+use Rattle.std.specs.Prelude.{◌≡◌, Bool, true, cond, List, ℕ, leb, eqb, Result, Ok, Err}
+use Rattle.refusal.specs.declared.Refusal.{Refusal}
 use Rattle.detector.specs.Verdict.{verdict_tag, motion_of}
 use Rattle.detector.specs.State.{new_state}
 use Rattle.detector.specs.Detector.{Kind, Pushes}
@@ -17,6 +18,10 @@ is_state x = leb x.present 1
 -- the state that they are
 abbrev pub state_of : Words → State
 state_of x = record { count = x.count; filled = x.filled; next = x.next; wander = x.wander; present = eqb x.present 1; last_motion = x.last_motion }
+
+-- and what they are taken as
+abbrev pub state_for : Words → Result State Refusal
+state_for x = cond (is_state x) (Ok (state_of x)) (Err Refusal.Memory)
 
 -- the numbers of a state
 abbrev pub words_of : State → Words

@@ -1,15 +1,17 @@
 // What presence and phase share (csi.rs, phase.rs): the verdict, the limits, and the state beside the ring and its sums.
 #![tactic(auto)]
 
-ghost use Rattle.std.specs.Prelude.{◌≡◌, cond};
+ghost use Rattle.std.specs.Prelude.{◌≡◌};
 ghost use Rattle.detector.specs.Verdict.{verdict_tag, motion_of, either_of};
 ghost use Rattle.detector.specs.State.{new_state};
-ghost use Rattle.detector.specs.Words.{is_state, words_of};
+ghost use Rattle.detector.specs.Words.{words_of, state_for};
+
+use refusal::Refusal;
 
 pub mod steps;
 
 // What a detector concluded.
-#[derive(Clone, Copy)]
+#[derive(Clone, Copy, Debug, PartialEq, Eq, Hash)]
 pub enum Verdict {
     Warming,
     Absent,
@@ -43,25 +45,21 @@ impl Verdict {
     pub fn either(self, other: Verdict) -> Verdict
         ensures { result ≡ either_of self other }
     {
-        match self {
-            Verdict::Present { motion } => match other {
-                Verdict::Present { motion: b } => { if b < motion { self } else { other } }
-                Verdict::Warming => self,
-                Verdict::Absent => self,
+        match (self, other) {
+            (Verdict::Present { motion: a }, Verdict::Present { motion: b }) => Verdict::Present {
+                motion: a.max(b),
             },
-            Verdict::Warming => match other {
-                Verdict::Present { motion: _ } => other,
-                Verdict::Warming => self,
-                Verdict::Absent => self,
-            },
-            Verdict::Absent => other,
+            (Verdict::Present { motion: _ }, _) => self,
+            (_, Verdict::Present { motion: _ }) => other,
+            (Verdict::Warming, _) => self,
+            (Verdict::Absent, _) => other,
         }
     }
 }
 
 // The wander from which on there is presence, the one down to which it ends, and the shortest time, in microseconds,
 // from the last motion to absence. Permille or parts per million: the decision is the same.
-#[derive(Clone, Copy)]
+#[derive(Clone, Copy, Debug, PartialEq, Eq, Hash)]
 pub struct Limits {
     pub on: u32,
     pub off: u32,
@@ -71,7 +69,7 @@ pub struct Limits {
 // The state beside the ring and its sums: the columns in use, the rows since the last restart, the slot to write
 // next, the last wander, the verdict, and the time of the last motion.
 #[repr(C)]
-#[derive(Clone, Copy)]
+#[derive(Clone, Copy, Debug, PartialEq, Eq, Hash)]
 pub struct State {
     pub count: usize,
     pub filled: usize,
@@ -98,7 +96,7 @@ impl State {
 
 // A state as numbers, as C has it: `present` is 1 where there is presence, else 0.
 #[repr(C)]
-#[derive(Clone, Copy)]
+#[derive(Clone, Copy, Debug, PartialEq, Eq, Hash)]
 pub struct Words {
     pub count: usize,
     pub filled: usize,
@@ -108,30 +106,38 @@ pub struct Words {
     pub last_motion: u64,
 }
 
-fn flag(b: bool) -> u8
-    ensures { result ≡ cond b 1 0 }
-{
-    if b { 1 } else { 0 }
-}
+impl From<State> for Words {
+    ghost from_gives = { λ s x. x ≡ words_of s };
 
-impl Words {
-    pub fn of(s: State) -> Words
-        ensures { result ≡ words_of s }
-    {
+    fn from(s: State) -> Words {
         Words {
             count: s.count,
             filled: s.filled,
             next: s.next,
             wander: s.wander,
-            present: flag(s.present),
+            present: u8::from(s.present),
             last_motion: s.last_motion,
         }
     }
+}
 
-    // Whether they are a state's: else refusal 2.
-    pub fn is_state(self) -> bool
-        ensures { result ≡ is_state self }
-    {
-        self.present <= 1
+// The state that numbers are: a byte that is neither 0 nor 1 is refused.
+impl TryFrom<Words> for State {
+    type Error = Refusal;
+
+    ghost try_from_gives = { λ x r. r ≡ state_for x };
+
+    fn try_from(x: Words) -> Result<State, Refusal> {
+        if 1 < x.present {
+            return Err(Refusal::Memory);
+        }
+        Ok(State {
+            count: x.count,
+            filled: x.filled,
+            next: x.next,
+            wander: x.wander,
+            present: x.present == 1,
+            last_motion: x.last_motion,
+        })
     }
 }

@@ -1,12 +1,13 @@
 // The steps of a state, in the order of a push, and the test of a state. The caller has tested settings and state.
-ghost use Rattle.std.specs.Prelude.{◌≡◌, true, cond, ◌<◌, ◌≤◌};
+ghost use Rattle.std.specs.Prelude.{◌≡◌, true, ◌<◌, ◌≤◌};
 ghost use Rattle.window.specs.Window.{columns};
 ghost use Rattle.detector.specs.Decision.{present_after, last_after, verdict_at};
 ghost use Rattle.detector.specs.State.{reset_state, start_state, next_state, judged_state, is_placed};
-ghost use Rattle.detector.specs.Calls.{is_window};
+ghost use Rattle.detector.specs.Calls.{is_window, window_check};
 ghost use Rattle.detector.specs.Words.{is_state, state_of};
 
 use crate::{Limits, State, Verdict, Words};
+use refusal::Refusal;
 use window::{COLUMNS, MAX_ROWS};
 
 // Whether there is presence at this wander.
@@ -16,13 +17,7 @@ fn present_after(limits: Limits, now: u64, wander: u32, present: bool, last: u64
     if limits.on <= wander {
         return true;
     }
-    if wander <= limits.off {
-        if limits.hold <= num::saturating_sub(now, last) {
-            return false;
-        }
-        return present;
-    }
-    present
+    present && (limits.off < wander || now.saturating_sub(last) < limits.hold)
 }
 
 fn last_after(limits: Limits, now: u64, wander: u32, last: u64) -> u64
@@ -36,12 +31,8 @@ pub fn reset_state(s: State) -> State
     ensures { result ≡ reset_state s }
 {
     State {
-        count: 0,
-        filled: 0,
-        next: 0,
-        wander: 0,
-        present: false,
         last_motion: s.last_motion,
+        ..State::new()
     }
 }
 
@@ -49,19 +40,13 @@ pub fn reset_state(s: State) -> State
 pub fn start_state(s: State, count: usize) -> State
     ensures { result ≡ start_state s count }
 {
-    let mut out = s;
-    out.count = count;
-    if s.filled == 0 {
-        return out;
+    if s.filled == 0 || s.count == count {
+        return State { count, ..s };
     }
-    if s.count == count {
-        return out;
+    State {
+        count,
+        ..reset_state(s)
     }
-    out.filled = 0;
-    out.next = 0;
-    out.wander = 0;
-    out.present = false;
-    out
 }
 
 // One row more.
@@ -69,23 +54,23 @@ pub fn next_state(w: usize, s: State) -> State
     requires { (s.next < w) × (s.filled ≤ w) }
     ensures { result ≡ next_state w s }
 {
-    let mut out = s;
-    out.next = (s.next + 1) % w;
-    if s.filled < w {
-        out.filled = s.filled + 1;
+    State {
+        next: (s.next + 1) % w,
+        filled: s.filled.saturating_add(1).min(w),
+        ..s
     }
-    out
 }
 
 // The decision at the wander of a full window.
 pub fn decide(limits: Limits, now: u64, wander: u32, s: State) -> State
     ensures { result ≡ judged_state limits now wander s }
 {
-    let mut out = s;
-    out.wander = wander;
-    out.present = present_after(limits, now, wander, s.present, s.last_motion);
-    out.last_motion = last_after(limits, now, wander, s.last_motion);
-    out
+    State {
+        wander,
+        present: present_after(limits, now, wander, s.present, s.last_motion),
+        last_motion: last_after(limits, now, wander, s.last_motion),
+        ..s
+    }
 }
 
 // The verdict, with `unit` of wander to a step of motion.
@@ -96,60 +81,43 @@ pub fn verdict_now(w: usize, unit: u32, s: State) -> Verdict
     if s.filled < w {
         return Verdict::Warming;
     }
-    if s.present {
-        let m = s.wander / unit;
-        if m < 255 {
-            return Verdict::Present { motion: m as u8 };
-        }
-        return Verdict::Present { motion: 255 };
+    if !s.present {
+        return Verdict::Absent;
     }
-    Verdict::Absent
+    Verdict::Present {
+        motion: (s.wander / unit).min(255) as u8,
+    }
 }
 
 // Whether the window has a size that the settings may name: else refusal 1.
 pub fn is_window(w: usize) -> bool
     ensures { result ≡ is_window w }
 {
-    if w < 1 {
-        return false;
-    }
-    w <= MAX_ROWS
+    (1..=MAX_ROWS).contains(&w)
 }
 
-// The state that numbers are.
-pub fn state_of(words: Words) -> State
-    requires { is_state words ≡ true }
-    ensures { result ≡ state_of words }
+// The same, with the refusal.
+pub fn check_window(w: usize) -> Result<(), Refusal>
+    ensures { result ≡ window_check w }
 {
-    State {
-        count: words.count,
-        filled: words.filled,
-        next: words.next,
-        wander: words.wander,
-        present: words.present == 1,
-        last_motion: words.last_motion,
+    if !is_window(w) {
+        return Err(Refusal::Settings);
     }
-}
-
-// The refusal of numbers that are no state's: 1 for the window's size, else 2.
-pub fn no_state(w: usize) -> u8
-    ensures { result ≡ cond (is_window w) 2 1 }
-{
-    if is_window(w) { 2 } else { 1 }
+    Ok(())
 }
 
 // Whether a state is in range over w rows, where no wander is above `top`: else refusal 2.
 pub fn in_range(w: usize, top: u32, s: State) -> bool
     ensures { result ≡ is_placed w columns top s }
 {
-    if w <= s.next {
-        return false;
-    }
-    if w < s.filled {
-        return false;
-    }
-    if COLUMNS < s.count {
-        return false;
-    }
-    s.wander <= top
+    s.next < w && s.filled <= w && s.count <= COLUMNS && s.wander <= top
+}
+
+// The state that numbers are.
+#[tactic(auto, unfolding(crate::specs::Words::state_for))]
+pub fn state_of(words: Words) -> State
+    requires { is_state words ≡ true }
+    ensures { result ≡ state_of words }
+{
+    State::try_from(words).unwrap()
 }

@@ -10,6 +10,7 @@ use borrow.Author.Tests.{lt-ltb, le-ltb, ne_eqb, eqb-true, leb-false}
 use lib.Dec.{ltb, eqb}
 use lib.ListN.{length, take, drop, get_or, set, replicate, length-replicate, get_or-replicate, length-map}
 use lib.Seq.{length-take-le, take_at, get_or-take}
+use Rattle.std.specs.Prelude.{None, Some}
 use Rattle.num.specs.Lists.{plus}
 use Rattle.num.proofs.Cond.{cond-holds}
 use Rattle.num.proofs.Each.{at_every}
@@ -24,7 +25,6 @@ use Rattle.vitals.specs.declared.config.VitalsConfig.{VitalsConfig}
 use Rattle.estimator.specs.Estimate.{estimate_of}
 use Rattle.estimator.specs.Estimator.{Rhythm, restarted, start_for, with_frame, closed, or_one, due_at, without_estimate, judged, push_frame}
 use Rattle.estimator.specs.State.{rhythm_at, ring_length, restarted_at, begun_at, fed_at, closed_at, rested_at, judged_at, begun_totals, fed_totals, rows_with, judged_by, Took}
-use Rattle.estimator.specs.declared.Answer.TheVariants.{NotDue, Due}
 use Rattle.estimator.specs.declared.Progress.{Progress}
 use Rattle.estimator.specs.declared.steps.Stepped.{Stepped}
 use Rattle.estimator.proofs.Facts.{Legal, Bounded, Waiting, InRange, range-tells}
@@ -136,7 +136,7 @@ module _ (cfg : VitalsConfig) (n time : ℕ) (p : Progress) (acc bytes amplitude
   from = begun-range cfg n p acc g.range g.acc-long some count g.narrow
 
   -- an empty frame
-  pub took-none : count ≡ 0 → Took cfg n time p acc bytes amplitude count (record { progress = p; answer = NotDue }) acc bytes
+  pub took-none : count ≡ 0 → Took cfg n time p acc bytes amplitude count (record { progress = p; answer = None }) acc bytes
   unfolding push_frame
   took-none e = record {
     progress = rw e;
@@ -182,7 +182,7 @@ module _ (cfg : VitalsConfig) (n time : ℕ) (p : Progress) (acc bytes amplitude
       (ap (λ (d : Rhythm). cond (ltb d.frames (or_one cfg.decim)) (without_estimate d) (judged cfg n time (closed n d))) added-law)
 
   pub took-open : (count ≡ 0 → ⊥) → Bounded (start.acc_n + 1) totals → start.acc_n + 1 < or_one cfg.decim
-      → Took cfg n time p acc bytes amplitude count (record { progress = fed_at start; answer = NotDue }) totals bytes
+      → Took cfg n time p acc bytes amplitude count (record { progress = fed_at start; answer = None }) totals bytes
   took-open not_None bound still = record {
     progress = rw (ne_eqb count 0 not_None, lt-ltb (start.acc_n + 1) (or_one cfg.decim) still);
     totals = rw (ne_eqb count 0 not_None, lt-ltb (start.acc_n + 1) (or_one cfg.decim) still);
@@ -256,29 +256,29 @@ module _ (cfg : VitalsConfig) (n time : ℕ) (p : Progress) (acc bytes amplitude
       all : due ≡ true → now.filled ≡ n
       all e = omega (arith, due-full (or_one cfg.update_every) n now.filled now.since_update e)
 
-      due-law : due ≡ true → record { after = rhythm_at (rested_at now) (replicate columns 0) rows'; answer = Due (estimate_of cfg time (window_of now.next n count rows')) } ≡ judged cfg n time (rhythm_at now (replicate columns 0) rows')
+      due-law : due ≡ true → record { after = rhythm_at (rested_at now) (replicate columns 0) rows'; answer = Some (estimate_of cfg time (window_of now.next n count rows')) } ≡ judged cfg n time (rhythm_at now (replicate columns 0) rows')
       unfolding rhythm_at
       due-law e =
-          ap (λ (k : ℕ). record { after = rhythm_at (rested_at now) (replicate columns 0) rows'; answer = Due (estimate_of cfg time (window_of now.next k count rows')) }) (sym (all e))
-          ∙ ap (λ (k : ℕ). record { after = rhythm_at (rested_at now) (replicate columns 0) rows'; answer = Due (estimate_of cfg time (window_of now.next now.filled k rows')) }) (sym at_count)
+          ap (λ (k : ℕ). record { after = rhythm_at (rested_at now) (replicate columns 0) rows'; answer = Some (estimate_of cfg time (window_of now.next k count rows')) }) (sym (all e))
+          ∙ ap (λ (k : ℕ). record { after = rhythm_at (rested_at now) (replicate columns 0) rows'; answer = Some (estimate_of cfg time (window_of now.next now.filled k rows')) }) (sym at_count)
           ∙ rw (blocks-long, e)
 
-      took-due : due ≡ true → Took cfg n time p acc bytes amplitude count (record { progress = rested_at now; answer = Due (estimate_of cfg time (window_of now.next n count rows')) }) (replicate columns 0) bytes'
+      took-due : due ≡ true → Took cfg n time p acc bytes amplitude count (record { progress = rested_at now; answer = Some (estimate_of cfg time (window_of now.next n count rows')) }) (replicate columns 0) bytes'
       took-due e = took _ (rw e) (ranged 0 (record { filling = λ h. absurd (omega (arith, all e)); full = λ h. omega arith })) (due-law e)
 
-      wait-law : due ≡ false → record { after = rhythm_at now (replicate columns 0) rows'; answer = NotDue } ≡ judged cfg n time (rhythm_at now (replicate columns 0) rows')
+      wait-law : due ≡ false → record { after = rhythm_at now (replicate columns 0) rows'; answer = None } ≡ judged cfg n time (rhythm_at now (replicate columns 0) rows')
       unfolding rhythm_at
       wait-law e = rw (blocks-long, e)
 
       filling : now.filled < n → now.since_update ≡ now.filled
       filling h = omega (arith, from.since.filling (omega arith))
 
-      took-wait : due ≡ false → Took cfg n time p acc bytes amplitude count (record { progress = now; answer = NotDue }) (replicate columns 0) bytes'
+      took-wait : due ≡ false → Took cfg n time p acc bytes amplitude count (record { progress = now; answer = None }) (replicate columns 0) bytes'
       took-wait e = took _ (rw e) (ranged now.since_update (record { filling = filling; full = λ h. wait-few (or_one cfg.update_every) n now.filled now.since_update e h })) (wait-law e)
 
       pub took-closed : Took cfg n time p acc bytes amplitude count (judged_by cfg n time now count rows') (replicate columns 0) bytes'
       took-closed = go due refl
         where
-          go : (b : Bool) → due ≡ b → Took cfg n time p acc bytes amplitude count (cond b (record { progress = rested_at now; answer = Due (estimate_of cfg time (window_of now.next n count rows')) }) (record { progress = now; answer = NotDue })) (replicate columns 0) bytes'
+          go : (b : Bool) → due ≡ b → Took cfg n time p acc bytes amplitude count (cond b (record { progress = rested_at now; answer = Some (estimate_of cfg time (window_of now.next n count rows')) }) (record { progress = now; answer = None })) (replicate columns 0) bytes'
           go true e = took-due e
           go false e = took-wait e

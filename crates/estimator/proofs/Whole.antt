@@ -1,10 +1,10 @@
 -- The estimate from its parts. Assumes nothing.
-use mathlib.Core.Path.{◌≡◌, refl, ◌∙◌}
+use mathlib.Core.Path.{◌≡◌, refl}
 use mathlib.Core.List.{List}
 use Prim.Native.Nat.{ℕ, zero, suc, ◌+◌, ◌≤◌, ◌<◌}
 use native.Mathlib.Omega.{arith}
 use borrow.Author.Tests.{lt-ltb, le-ltb, le-leb, lt-leb, eq-eqb, ne_eqb}
-use lib.ListN.{length, take, replicate, length-take, length-replicate}
+use lib.ListN.{length, take, replicate}
 use lib.IntN.{ℤ, pos}
 use Rattle.window.specs.Window.{columns, ring_rows, window_of}
 use Rattle.window.specs.Words.{words}
@@ -13,7 +13,6 @@ use Rattle.window.proofs.View.{length-window}
 use Rattle.vitals.specs.Series.{at}
 use Rattle.vitals.specs.Correlation.{curve}
 use Rattle.vitals.specs.Peak.{best_lag}
-use Rattle.vitals.specs.Steps.{block_len, Padded}
 use Rattle.vitals.specs.declared.config.VitalsConfig.{VitalsConfig}
 use Rattle.estimator.specs.Estimate.{empty_at, read_at, rhythm_of, columns_of, lowest, longest, estimate_of}
 
@@ -51,10 +50,3 @@ zero-part k zero (suc m) = refl
 zero-part k (suc n) zero = refl
 zero-part zero (suc n) (suc m) = refl
 zero-part (suc k) (suc n) (suc m) = zero-part k n m
-
-pub zero-padded : (n room : ℕ) → n + block_len ≤ room → Padded n (take (n + block_len) (replicate room (pos 0)))
-zero-padded n room h = record {
-  long = length-take (n + block_len) (replicate room (pos 0)) ∙ omega (arith, length-replicate room (pos 0));
-  zeros = λ k l. zero-part k room (n + block_len);
-  samples = λ k. rw (zero-part k room (n + block_len)) (omega arith);
-}

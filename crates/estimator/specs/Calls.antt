@@ -1,11 +1,12 @@
 -- What the public calls answer on every input: `new`, `push` and `reset` of vitals.rs with their refusals. Assumes nothing.
-use Rattle.std.specs.Prelude.{◌≡◌, Bool, cond, ◌&&◌, List, ℕ, eqb, leb, length, replicate}
+use Rattle.std.specs.Prelude.{◌≡◌, Bool, cond, ◌&&◌, List, ℕ, eqb, leb, length, replicate, Result, Ok, Err, IfOk}
+use Rattle.refusal.specs.Refusal.{answered_number}
+use Rattle.refusal.specs.declared.Refusal.{Refusal}
+use Rattle.refusal.specs.declared.Refusal.TheVariants.{Settings, Memory}
 use Rattle.window.specs.Window.{columns}
 use Rattle.vitals.specs.declared.config.VitalsConfig.{VitalsConfig}
 use Rattle.estimator.specs.State.{legal, in_range, ring_length, restarted_at, Took}
 use Rattle.estimator.specs.declared.VitalsEstimator.{VitalsEstimator}
-use Rattle.estimator.specs.declared.Answer.TheVariants.{NotDue}
-use Rattle.estimator.specs.declared.Begun.{Begun}
 use Rattle.estimator.specs.declared.Pushed.{Pushed}
 
 -- a new estimator
@@ -29,23 +30,22 @@ reset_refusal cfg n s bytes = cond (legal cfg n) (cond (valid cfg n s bytes) 0 2
 abbrev pub push_refusal : VitalsConfig → ℕ → VitalsEstimator → List ℕ → (count : ℕ) → ℕ
 push_refusal cfg n s bytes count = cond (eqb (reset_refusal cfg n s bytes) 0) (cond (leb count columns) 0 7) (reset_refusal cfg n s bytes)
 
--- `new` and `reset` answer a new state; a refused `reset` the state that was handed in. The rows are only read
-abbrev pub new_answer : VitalsConfig → ℕ → List ℕ → Begun
-new_answer cfg n bytes = record { refusal = new_refusal cfg n bytes; state = new_state }
+-- what is tested in turn: the settings and the memory, then the state
+abbrev pub ring_check : VitalsConfig → ℕ → List ℕ → Result Unit Refusal
+ring_check cfg n bytes = cond (legal cfg n) (cond (fits n bytes) (Ok tt) (Err Memory)) (Err Settings)
 
-abbrev pub reset_answer : VitalsConfig → ℕ → VitalsEstimator → List ℕ → Begun
-reset_answer cfg n s bytes =
-    record { refusal = reset_refusal cfg n s bytes; state = cond (eqb (reset_refusal cfg n s bytes) 0) new_state s }
+abbrev pub state_check : VitalsConfig → ℕ → VitalsEstimator → List ℕ → Result Unit Refusal
+state_check cfg n s bytes = cond (legal cfg n) (cond (valid cfg n s bytes) (Ok tt) (Err Memory)) (Err Settings)
 
--- a refused frame: no estimate, and all as it was
-pub record Refused (s : VitalsEstimator) (bytes bytes' : List ℕ) (r : Pushed) : Type 0 where
-  pub state : r.state ≡ s
-  pub answer : r.answer ≡ NotDue
-  pub memory : bytes' ≡ bytes
+-- `new` and `reset` answer a new state. The rows are only read
+abbrev pub new_answer : VitalsConfig → ℕ → List ℕ → Result VitalsEstimator Refusal
+new_answer cfg n bytes = cond (legal cfg n) (cond (fits n bytes) (Ok new_state) (Err Memory)) (Err Settings)
 
--- `push`
-pub record Tried (cfg : VitalsConfig) (n time : ℕ) (s : VitalsEstimator) (bytes amplitude : List ℕ) (count : ℕ) (bytes' : List ℕ) (r : Pushed) : Type 0 where
-  pub refusal : r.refusal ≡ push_refusal cfg n s bytes count
-  pub refused : (push_refusal cfg n s bytes count ≡ 0 → ⊥) → Refused s bytes bytes' r
-  pub taken : push_refusal cfg n s bytes count ≡ 0
-      → Took cfg n time s.progress s.acc bytes amplitude count (record { progress = r.state.progress; answer = r.answer }) r.state.acc bytes'
+abbrev pub reset_answer : VitalsConfig → ℕ → VitalsEstimator → List ℕ → Result VitalsEstimator Refusal
+reset_answer cfg n s bytes = cond (legal cfg n) (cond (valid cfg n s bytes) (Ok new_state) (Err Memory)) (Err Settings)
+
+-- `push`: its number; refused, the rows are as they were; else what a frame taken makes
+pub record Tried (cfg : VitalsConfig) (n time : ℕ) (s : VitalsEstimator) (bytes amplitude : List ℕ) (count : ℕ) (bytes' : List ℕ) (r : Result Pushed Refusal) : Type 0 where
+  pub refusal : answered_number r ≡ push_refusal cfg n s bytes count
+  pub refused : (push_refusal cfg n s bytes count ≡ 0 → ⊥) → bytes' ≡ bytes
+  pub taken : IfOk r (λ p. Took cfg n time s.progress s.acc bytes amplitude count (record { progress = p.state.progress; answer = p.answer }) p.state.acc bytes')

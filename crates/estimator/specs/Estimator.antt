@@ -1,11 +1,10 @@
 -- The estimator fed frame by frame (vitals.rs, `push` and `reset`). A frame is the list of its amplitudes. Assumes nothing.
-use Rattle.std.specs.Prelude.{Bool, false, cond, List, [], map, ℕ, ◌+◌, ◌/◌, max, eqb, ltb, leb, length, replicate}
+use Rattle.std.specs.Prelude.{Bool, false, cond, List, [], map, ℕ, ◌+◌, ◌/◌, max, eqb, ltb, leb, length, replicate, Option, None, Some}
 use Rattle.num.specs.Lists.{plus}
 use Rattle.window.specs.Window.{push_row}
 use Rattle.vitals.specs.declared.config.VitalsConfig.{VitalsConfig}
 use Rattle.estimator.specs.Estimate.{estimate_of}
-use Rattle.estimator.specs.declared.Answer.{Answer}
-use Rattle.estimator.specs.declared.Answer.TheVariants.{NotDue, Due}
+use Rattle.estimator.specs.declared.Vitals.{Vitals}
 
 -- What the estimator remembers: the block means since the last restart, at most n rows, oldest first; the open block's column totals and how
 -- many frames are in it; the blocks since the last estimate
@@ -15,10 +14,10 @@ pub record Rhythm : Type 0 where
   pub frames : ℕ
   pub since : ℕ
 
--- what a frame gives
+-- what a frame gives: an estimate, where one is due
 pub record Step : Type 0 where
   pub after : Rhythm
-  pub answer : Answer
+  pub answer : Option Vitals
 
 -- nothing remembered, for frames of this many columns
 abbrev pub restarted : ℕ → Rhythm
@@ -53,13 +52,13 @@ abbrev pub rested : Rhythm → Rhythm
 rested d = record { blocks = d.blocks; totals = d.totals; frames = d.frames; since = 0 }
 
 abbrev pub without_estimate : Rhythm → Step
-without_estimate d = record { after = d; answer = NotDue }
+without_estimate d = record { after = d; answer = None }
 
 -- after a block: the estimate of the window, where one is due
 abbrev pub judged : VitalsConfig → (n time : ℕ) → Rhythm → Step
 judged cfg n time d =
     cond (due_at (or_one cfg.update_every) n (length d.blocks) d.since)
-    (record { after = rested d; answer = Due (estimate_of cfg time d.blocks) })
+    (record { after = rested d; answer = Some (estimate_of cfg time d.blocks) })
     (without_estimate d)
 
 -- One frame: an empty one changes nothing; any other is added to the open block, which is closed when it has its `decim` frames

@@ -1,5 +1,6 @@
 -- A state as a call gave it is never refused with 2, with its own settings and memory (document 01); a new one remembers nothing. Assumes nothing.
-use Rattle.std.specs.Prelude.{◌≡◌, List, ℕ, ◌≤◌}
+use Rattle.std.specs.Prelude.{◌≡◌, List, ℕ, ◌≤◌, Result, Ok, Err, IsOkAnd}
+use Rattle.refusal.specs.declared.Refusal.{Refusal}
 use Rattle.window.specs.Window.{columns}
 use Rattle.vitals.specs.declared.config.VitalsConfig.{VitalsConfig}
 use Rattle.estimator.specs.Estimator.{restarted}
@@ -13,11 +14,20 @@ pub record Taken (cfg : VitalsConfig) (n : ℕ) (s : VitalsEstimator) (bytes : L
   pub reset : reset_refusal cfg n s bytes ≡ 0
   pub push : (count : ℕ) → count ≤ columns → push_refusal cfg n s bytes count ≡ 0
 
+-- the state that the caller has then: the answer's, or where there is none the one that was handed in
+abbrev pub kept : VitalsEstimator → Result VitalsEstimator Refusal → VitalsEstimator
+kept s (Ok t) = t
+kept s (Err e) = s
+
+abbrev pub kept_pushed : VitalsEstimator → Result Pushed Refusal → VitalsEstimator
+kept_pushed s (Ok p) = p.state
+kept_pushed s (Err e) = s
+
 pub record NeverRefused : Type 0 where
-  pub new : (cfg : VitalsConfig) (n : ℕ) (bytes : List ℕ) → new_refusal cfg n bytes ≡ 0 → Taken cfg n (new_answer cfg n bytes).state bytes
-  pub reset : (cfg : VitalsConfig) (n : ℕ) (s : VitalsEstimator) (bytes : List ℕ) → Taken cfg n s bytes → Taken cfg n (reset_answer cfg n s bytes).state bytes
-  pub push : (cfg : VitalsConfig) (n time : ℕ) (s : VitalsEstimator) (bytes amplitude : List ℕ) (count : ℕ) (bytes' : List ℕ) (r : Pushed)
-      → Taken cfg n s bytes → Tried cfg n time s bytes amplitude count bytes' r → Taken cfg n r.state bytes'
+  pub new : (cfg : VitalsConfig) (n : ℕ) (bytes : List ℕ) → new_refusal cfg n bytes ≡ 0 → IsOkAnd (new_answer cfg n bytes) (λ s. Taken cfg n s bytes)
+  pub reset : (cfg : VitalsConfig) (n : ℕ) (s : VitalsEstimator) (bytes : List ℕ) → Taken cfg n s bytes → Taken cfg n (kept s (reset_answer cfg n s bytes)) bytes
+  pub push : (cfg : VitalsConfig) (n time : ℕ) (s : VitalsEstimator) (bytes amplitude : List ℕ) (count : ℕ) (bytes' : List ℕ) (r : Result Pushed Refusal)
+      → Taken cfg n s bytes → Tried cfg n time s bytes amplitude count bytes' r → Taken cfg n (kept_pushed s r) bytes'
 
 -- whatever the rows hold
 abbrev pub NewIsBlank : Type 0

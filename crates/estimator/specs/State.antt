@@ -1,6 +1,6 @@
 -- The estimator's state: its progress, the open block's totals, and the ring of block means in memory (vitals.rs, `VitalsEstimator`). What they
 -- stand for, their ranges, and what a frame makes of them. Assumes nothing.
-use Rattle.std.specs.Prelude.{◌≡◌, Bool, true, cond, ◌&&◌, List, [], map, ℕ, ◌+◌, ◌*◌, ◌/◌, eqb, ltb, leb, length, get_or, take, set, replicate}
+use Rattle.std.specs.Prelude.{◌≡◌, Bool, true, cond, ◌&&◌, List, [], map, ℕ, ◌+◌, ◌*◌, ◌/◌, eqb, ltb, leb, length, get_or, take, set, replicate, None, Some}
 use Rattle.num.specs.Lists.{plus}
 use Rattle.num.specs.Tests.{all_below}
 use Rattle.window.specs.Window.{columns, ring_rows, window_of, overwrite, next_slot, filled_after}
@@ -8,7 +8,6 @@ use Rattle.vitals.specs.Band.{usable}
 use Rattle.vitals.specs.declared.config.VitalsConfig.{VitalsConfig}
 use Rattle.estimator.specs.Estimator.{Rhythm, or_one, due_at, push_frame}
 use Rattle.estimator.specs.Estimate.{estimate_of}
-use Rattle.estimator.specs.declared.Answer.TheVariants.{NotDue, Due}
 use Rattle.estimator.specs.declared.Progress.{Progress}
 use Rattle.estimator.specs.declared.steps.Stepped.{Stepped}
 
@@ -88,8 +87,8 @@ rows_after cfg p acc rows amplitude count =
 abbrev pub judged_by : VitalsConfig → (n time : ℕ) → Progress → (count : ℕ) → List (List ℕ) → Stepped
 judged_by cfg n time p count rows =
     cond (due_at (or_one cfg.update_every) n p.filled p.since_update)
-    (record { progress = rested_at p; answer = Due (estimate_of cfg time (window_of p.next n count rows)) })
-    (record { progress = p; answer = NotDue })
+    (record { progress = rested_at p; answer = Some (estimate_of cfg time (window_of p.next n count rows)) })
+    (record { progress = p; answer = None })
 
 -- A frame taken: each place as defined above, all of it in range, and what it stands for the step of the definition
 pub record Took (cfg : VitalsConfig) (n time : ℕ) (p : Progress) (acc bytes amplitude : List ℕ) (count : ℕ) (r : Stepped) (acc' bytes' : List ℕ) : Type 0 where

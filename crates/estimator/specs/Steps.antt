@@ -1,10 +1,10 @@
 -- What the contracts of the inner steps say. Assumes nothing.
-use Rattle.std.specs.Prelude.{◌≡◌, List, ℕ, ◌+◌, ◌*◌, ◌<◌, length, get_or, take, ℤ, pos}
+use Rattle.std.specs.Prelude.{◌≡◌, List, ℕ, ◌+◌, ◌*◌, ◌<◌, length, get_or, ℤ, pos}
 use Rattle.num.specs.Wrap.{wrap16}
-use Rattle.window.specs.Window.{columns}
+use Rattle.window.specs.Window.{columns, ring_rows, window_of}
 use Rattle.window.specs.Words.{words}
 use Rattle.vitals.specs.Series as samples
-use Rattle.vitals.specs.Steps.{Padded}
+use Rattle.estimator.specs.declared.view.View.{View}
 
 -- the entry sc of a slot, a signed number
 abbrev pub entry_of : (bytes : List ℕ) → (slot sc : ℕ) → ℤ
@@ -16,7 +16,6 @@ pub record Read (bytes : List ℕ) (first many sc at : ℕ) (x y : List ℤ) : T
   pub entries : (k : ℕ) → k < many → samples.at y (at + k) ≡ entry_of bytes (first + k) sc
   pub before : (k : ℕ) → k < at → samples.at y k ≡ samples.at x k
 
--- the series s of n samples stands in front of the zeros of x
-pub record Front (n : ℕ) (s x : List ℤ) : Type 0 where
-  pub padded : Padded n x
-  pub front : take n x ≡ s
+-- the blocks of a full window, in the order of time
+abbrev pub blocks_in : View → List (List ℕ)
+blocks_in v = window_of v.next v.n v.count (ring_rows v.n columns v.rows.now)

@@ -2,41 +2,22 @@
 ghost use Rattle.std.specs.Prelude.{◌≡◌, map, ℕ, ◌+◌, ◌*◌, ◌/◌, ◌≤◌, ◌<◌, length, get_or, take, replicate};
 ghost use Rattle.num.specs.Lists.{plus};
 ghost use Rattle.window.specs.Window.{columns, ring_rows};
-ghost use Rattle.vitals.specs.Steps.{Exact};
 ghost use Rattle.estimator.specs.State.{ring_length, begun_at, begun_totals, fed_at, closed_at, rows_with};
 
 use crate::Progress;
 use vitals::steps::divide::Divisor;
 use window::COLUMNS;
 
-// Every total 0.
-fn clear(acc: &mut [u32; COLUMNS])
-    requires { length acc.old ≡ columns }
-    ensures { acc.new ≡ replicate columns 0 }
-{
-    for k in 0..COLUMNS {
-        acc[k] = 0;
-    }
-}
-
 // A frame of another count restarts the window and empties the open block.
 pub(crate) fn begin(acc: &mut [u32; COLUMNS], progress: Progress, count: usize) -> Progress
     requires { length acc.old ≡ columns }
     ensures { (result ≡ begun_at progress count) × (acc.new ≡ begun_totals progress acc.old count) }
 {
-    if progress.count == count {
-        return progress;
+    if progress.count != count {
+        acc.fill(0);
+        return crate::steps::restarted(count);
     }
-    clear(acc);
-    crate::steps::restarted(count)
-}
-
-// A total of at most 32,766 frames and one amplitude more.
-fn add_amplitude(total: u32, a: u16) -> u32
-    requires { total ≤ 2147319810 }
-    ensures { result ≡ total + a }
-{
-    total + (a as u32)
+    progress
 }
 
 // A frame's amplitudes added to the totals.
@@ -45,7 +26,7 @@ pub(crate) fn add_frame(acc: &mut [u32; COLUMNS], amplitude: &[u16], count: usiz
     ensures { (acc.new ≡ plus acc.old (take count amplitude.now)) × ((k : ℕ) → k < count → get_or amplitude.now k 0 ≤ 65535) }
 {
     for sc in 0..count {
-        acc[sc] = add_amplitude(acc[sc], amplitude[sc]);
+        acc[sc] += u32::from(amplitude[sc]);
     }
 }
 
@@ -54,17 +35,18 @@ pub(crate) fn with_frame(progress: Progress) -> Progress
     requires { progress.acc_n ≤ 65535 }
     ensures { result ≡ fed_at progress }
 {
-    let mut out = progress;
-    out.acc_n = progress.acc_n + 1;
-    out
+    Progress {
+        acc_n: progress.acc_n + 1,
+        ..progress
+    }
 }
 
 // The mean of a column's total.
 fn mean_of(total: u32, d: Divisor) -> u16
-    requires { Exact d × (total ≤ d.by * 65535) }
+    requires { total ≤ d.by * 65535 }
     ensures { result ≡ total / d.by }
 {
-    vitals::steps::divide::divide(total, d) as u16
+    d.divide(total) as u16
 }
 
 // The means of all totals over so many frames.
@@ -72,7 +54,7 @@ fn means(acc: &[u32; COLUMNS], frames: u32) -> [u16; COLUMNS]
     requires { (1 ≤ frames) × (frames ≤ 32767) × (length acc.now ≡ columns) × ((k : ℕ) → k < columns → get_or acc.now k 0 ≤ frames * 65535) }
     ensures { result ≡ map (λ (total : ℕ). total / frames) acc.now }
 {
-    let d = vitals::steps::divide::divisor_by(frames);
+    let d = Divisor::new(frames);
     let mut out = [0u16; COLUMNS];
     for sc in 0..COLUMNS {
         out[sc] = mean_of(acc[sc], d);
@@ -85,10 +67,9 @@ fn closed(n: usize, progress: Progress) -> Progress
     requires { (progress.next < n) × (progress.filled ≤ n) × (n ≤ 512) × (progress.since_update ≤ 65535) }
     ensures { result ≡ closed_at n progress }
 {
-    let filled = progress.filled;
     Progress {
         count: progress.count,
-        filled: if filled < n { filled + 1 } else { n },
+        filled: n.min(progress.filled + 1),
         next: (progress.next + 1) % n,
         acc_n: 0,
         since_update: progress.since_update + 1,
@@ -110,6 +91,6 @@ pub(crate) fn close(
     let row = means(acc, progress.acc_n);
     let slot = progress.next;
     window::steps::write_row(rows, n, slot, row, count);
-    clear(acc);
+    acc.fill(0);
     closed(n, progress)
 }

@@ -1,25 +1,25 @@
 // The estimate over a full window, when one is due (vitals.rs, `push` and `estimate`).
-ghost use Rattle.std.specs.Prelude.{◌≡◌, true, ◌+◌, ◌-◌, ◌≤◌, ◌<◌, min, length};
-ghost use Rattle.window.specs.Window.{columns, ring_rows, window_of};
+ghost use Rattle.std.specs.Prelude.{◌≡◌, true, ◌+◌, ◌≤◌, ◌<◌, length};
+ghost use Rattle.window.specs.Window.{columns, ring_rows};
 ghost use Rattle.vitals.specs.Band.{usable};
 ghost use Rattle.vitals.specs.Peak.{best_lag};
-ghost use Rattle.vitals.specs.Steps.{Padded, most_summed, Within};
+ghost use Rattle.vitals.specs.Steps.{most_summed, Within};
 ghost use Rattle.estimator.specs.Estimate.{empty_at, read_at, rhythm_of, columns_of, estimate_of};
 ghost use Rattle.estimator.specs.Estimator.{due_at, or_one};
+ghost use Rattle.estimator.specs.Steps.{blocks_in};
 ghost use Rattle.estimator.specs.State.{legal, ring_length, rested_at, judged_by};
 
 use crate::steps::Stepped;
-use crate::{Answer, Progress, Vitals};
+use crate::view::View;
+use crate::{Progress, Vitals};
+use vitals::band::Lags;
 use vitals::config::VitalsConfig;
-use vitals::steps::correlation::BLOCK;
-use vitals::steps::series::MAX_SAMPLES;
+use vitals::steps::padded::Padded;
 
 // The most lags that are summed: 1 to hi + 1.
 const MAX_LAGS: usize = 128;
 
-// A series' room, with a block of zeros behind it, and that of the summed correlations, by lag.
-const ROOM: usize = MAX_SAMPLES + BLOCK;
-
+// Room for the summed correlations, by lag.
 const LAG_ROOM: usize = MAX_LAGS + 1;
 
 // No rate, no confidence.
@@ -36,18 +36,11 @@ fn empty(time: u64) -> Vitals
 }
 
 // What is read from the summed correlations.
-fn read_off(
-    summed: &[i32],
-    config: VitalsConfig,
-    time: u64,
-    lo: usize,
-    hi: usize,
-    used: usize,
-) -> Vitals
-    requires { (2 ≤ hi) × (hi ≤ 127) × (hi + 1 < length summed.now) × Within most_summed summed.now × (1 ≤ used) × (used ≤ columns) × (config.rate_hz ≤ 1000) }
-    ensures { result ≡ read_at config time lo hi used summed.now (best_lag summed.now hi) }
+fn read_off(summed: &[i32], config: VitalsConfig, time: u64, lags: Lags, used: usize) -> Vitals
+    requires { (2 ≤ lags.hi) × (lags.hi ≤ 127) × (lags.hi + 1 < length summed.now) × Within most_summed summed.now × (1 ≤ used) × (used ≤ columns) × (config.rate_hz ≤ 1000) }
+    ensures { result ≡ read_at config time lags.lo lags.hi used summed.now (best_lag summed.now lags.hi) }
 {
-    let best = vitals::steps::peak::best_lag(summed, hi);
+    let best = vitals::steps::peak::best_lag(summed, lags.hi);
     let confidence = vitals::steps::rate::confidence_of(summed[best], used);
     let delta = vitals::steps::rate::delta_x16(summed[best - 1], summed[best], summed[best + 1]);
     let lag = vitals::steps::rate::refined_lag(best, delta);
@@ -55,85 +48,54 @@ fn read_off(
         bpm_x10: vitals::steps::rate::bpm_x10(config.rate_hz, lag),
         confidence,
         lag_x16: lag,
-        accepted: vitals::steps::rate::is_accepted(
-            lo,
-            hi,
-            best,
-            confidence,
-            config.accept_permille,
-        ),
+        accepted: vitals::steps::rate::is_accepted(lags, best, confidence, config.accept_permille),
         at: time,
     }
 }
 
 // The estimate over the columns; `a`, `b` and `summed` are room to work in.
 fn over_columns(
-    rows: &[u8],
-    n: usize,
-    next: usize,
-    count: usize,
+    view: View<'_>,
     config: VitalsConfig,
     time: u64,
-    lo: usize,
-    hi: usize,
-    a: &mut [i16],
-    b: &mut [i16],
+    lags: Lags,
+    a: &mut Padded,
+    b: &mut Padded,
     summed: &mut [i32],
 ) -> Vitals
-    requires le_n { (1 ≤ n) × (n ≤ 512) × (length rows.now ≡ ring_length n) × (next < n) × (count ≤ columns) × Padded n a.old × Padded n b.old }
-    requires le_hi { (2 ≤ hi) × (hi ≤ 127) × (hi + 1 < n) × (length summed.old ≡ hi + 2) × Within 0 summed.old × (config.rate_hz ≤ 1000) }
-    ensures { result ≡ rhythm_of config time lo hi (columns_of config.highpass (window_of next n count (ring_rows n columns rows.now))) }
+    requires le_n { (length a.old ≡ view.n) × (length b.old ≡ view.n) }
+    requires le_hi { (2 ≤ lags.hi) × (lags.hi ≤ 127) × (lags.hi + 1 < view.n) × (length summed.old ≡ lags.hi + 2) × Within 0 summed.old × (config.rate_hz ≤ 1000) }
+    ensures { result ≡ rhythm_of config time lags.lo lags.hi (columns_of config.highpass (blocks_in view.entry)) }
 {
     let m = config.highpass as usize;
-    let used = crate::column::add_columns(rows, n, next, count, m, a, b, summed, hi);
+    let used = crate::column::add_columns(view, m, a, b, summed, lags.hi);
     if used == 0 {
         return empty(time);
     }
-    read_off(summed, config, time, lo, hi, used)
+    read_off(summed, config, time, lags, used)
 }
 
-fn smaller(a: usize, b: usize) -> usize
-    ensures { result ≡ min a b }
+// The estimate over a full window.
+fn estimate(view: View<'_>, config: VitalsConfig, time: u64) -> Vitals
+    requires { (4 ≤ view.n) × (usable config.band config.rate_hz ≡ true) }
+    ensures { result ≡ estimate_of config time (blocks_in view.entry) }
 {
-    if a < b { a } else { b }
-}
-
-// The estimate over a full window of n rows whose oldest is in the slot `next`.
-fn estimate(
-    rows: &[u8],
-    n: usize,
-    next: usize,
-    count: usize,
-    config: VitalsConfig,
-    time: u64,
-) -> Vitals
-    requires { (4 ≤ n) × (n ≤ 512) × (length rows.now ≡ ring_length n) × (next < n) × (count ≤ columns) × (usable config.band config.rate_hz ≡ true) }
-    ensures { result ≡ estimate_of config time (window_of next n count (ring_rows n columns rows.now)) }
-{
-    let band = config.band;
-    let lags = vitals::steps::lags(band, config.rate_hz);
+    let lags = vitals::steps::lags(config.band, config.rate_hz);
     let lo = lags.lo;
-    let hi = smaller(lags.hi, n - 2);
-    if hi <= lo {
+    let hi = lags.hi.min(view.n - 2);
+    if hi <= lo || MAX_LAGS < hi + 1 {
         return empty(time);
     }
-    if MAX_LAGS < hi + 1 {
-        return empty(time);
-    }
-    let mut a = [0i16; ROOM];
-    let mut b = [0i16; ROOM];
+    let mut a = Padded::zeros(view.n);
+    let mut b = Padded::zeros(view.n);
     let mut summed = [0i32; LAG_ROOM];
     over_columns(
-        rows,
-        n,
-        next,
-        count,
+        view,
         config,
         time,
-        lo,
-        hi,
-        &mut a[..n + BLOCK],
-        &mut b[..n + BLOCK],
+        Lags { lo, hi },
+        &mut a,
+        &mut b,
         &mut summed[..hi + 2],
     )
 }
@@ -142,18 +104,16 @@ fn estimate(
 fn is_due(every: u32, n: usize, progress: Progress) -> bool
     ensures { result ≡ due_at every n progress.filled progress.since_update }
 {
-    if progress.filled < n {
-        return false;
-    }
-    every <= progress.since_update
+    n <= progress.filled && every <= progress.since_update
 }
 
 fn rested(progress: Progress) -> Progress
     ensures { result ≡ rested_at progress }
 {
-    let mut out = progress;
-    out.since_update = 0;
-    out
+    Progress {
+        since_update: 0,
+        ..progress
+    }
 }
 
 // An estimate, if one is due after a block.
@@ -169,15 +129,20 @@ pub(crate) fn judge(
     requires { (legal config n ≡ true) × (length rows.now ≡ ring_length n) × (progress.next < n) × (count ≤ columns) × (every ≡ or_one config.update_every) }
     ensures { result ≡ judged_by config n time progress count (ring_rows n columns rows.now) }
 {
-    if is_due(every, n, progress) {
-        let v = estimate(rows, n, progress.next, count, config, time);
+    if !is_due(every, n, progress) {
         return Stepped {
-            progress: rested(progress),
-            answer: Answer::Due(v),
+            progress,
+            answer: None,
         };
     }
+    let view = View {
+        rows,
+        n,
+        next: progress.next,
+        count,
+    };
     Stepped {
-        progress,
-        answer: Answer::NotDue,
+        progress: rested(progress),
+        answer: Some(estimate(view, config, time)),
     }
 }

@@ -3,8 +3,10 @@
 #![tactic(auto)]
 
 ghost use Rattle.std.specs.Prelude.{◌≡◌};
-ghost use Rattle.estimator.specs.Calls.{new_state, reset_refusal, new_answer, reset_answer, Tried};
+ghost use Rattle.refusal.specs.Refusal.{answered_number};
+ghost use Rattle.estimator.specs.Calls.{new_state, new_refusal, reset_refusal, ring_check, state_check, new_answer, reset_answer, Tried};
 
+use refusal::Refusal;
 use vitals::config::VitalsConfig;
 use window::COLUMNS;
 
@@ -12,11 +14,12 @@ mod block;
 mod column;
 mod estimate;
 pub mod steps;
+mod view;
 
 // An estimate: ten times the rate per minute, the confidence in permille, the lag in sixteenths of a block, whether it is
 // sure enough and inside the band, and when the window ended.
 #[repr(C)]
-#[derive(Clone, Copy)]
+#[derive(Clone, Copy, Debug, PartialEq, Eq)]
 pub struct Vitals {
     pub bpm_x10: u16,
     pub confidence: u16,
@@ -25,17 +28,10 @@ pub struct Vitals {
     pub at: u64,
 }
 
-// What a frame gives.
-#[derive(Clone, Copy)]
-pub enum Answer {
-    NotDue,
-    Due(Vitals),
-}
-
 // Where the estimator stands: the columns in use, the blocks since the last restart, the slot to write next, the frames in
 // the open block, the blocks since the last estimate.
 #[repr(C)]
-#[derive(Clone, Copy)]
+#[derive(Clone, Copy, Debug, PartialEq, Eq)]
 pub struct Progress {
     pub count: usize,
     pub filled: usize,
@@ -46,68 +42,63 @@ pub struct Progress {
 
 // The progress and the open block's totals.
 #[repr(C)]
-#[derive(Clone, Copy)]
+#[derive(Clone, Copy, Debug, PartialEq, Eq)]
 pub struct VitalsEstimator {
     pub progress: Progress,
     pub acc: [u32; COLUMNS],
 }
 
-// Refusal 0 and a new state, or a refusal's number.
-#[repr(C)]
-#[derive(Clone, Copy)]
-pub struct Begun {
-    pub refusal: u8,
-    pub state: VitalsEstimator,
-}
-
-// Refusal 0, the state after a frame and what the frame gave, or a refusal's number and the state as it was.
-#[derive(Clone, Copy)]
+// The state after a frame, and the estimate where one is due.
+#[derive(Clone, Copy, Debug, PartialEq, Eq)]
 pub struct Pushed {
-    pub refusal: u8,
     pub state: VitalsEstimator,
-    pub answer: Answer,
+    pub answer: Option<Vitals>,
 }
 
-fn new_state() -> VitalsEstimator
-    ensures { result ≡ new_state }
+// Settings in range, and memory of the right length for them.
+#[tactic(auto, unfolding(crate::specs::State::legal))]
+fn check_ring(rows: &[u8], n: usize, config: VitalsConfig) -> Result<(), Refusal>
+    ensures { result ≡ ring_check config n rows.now }
 {
-    VitalsEstimator {
-        progress: steps::restarted(0),
-        acc: [0u32; COLUMNS],
+    if !steps::is_legal(config, n) {
+        return Err(Refusal::Settings);
     }
-}
-
-// The refusal of settings, then of memory and state; 0 for none.
-fn refusal_of(rows: &[u8], n: usize, config: VitalsConfig, state: VitalsEstimator) -> u8
-    ensures { result ≡ reset_refusal config n state rows.now }
-{
-    if steps::is_legal(config, n) {
-        if rows.len() == 2 * (n * COLUMNS) {
-            let progress = state.progress;
-            let acc = state.acc;
-            if steps::is_valid(n, config, progress, &acc) {
-                return 0;
-            }
-            return 2;
-        }
-        return 2;
+    if rows.len() != 2 * (n * COLUMNS) {
+        return Err(Refusal::Memory);
     }
-    1
+    Ok(())
 }
 
 impl VitalsEstimator {
-    // A new estimator of n blocks over lent rows, whose content is free.
-    pub fn new(rows: &[u8], n: usize, config: VitalsConfig) -> Begun
-        ensures { result ≡ new_answer config n rows.now }
+    // Nothing remembered: a new estimator's state, for any settings.
+    pub fn blank() -> VitalsEstimator
+        ensures { result ≡ new_state }
     {
-        let state = new_state();
-        if steps::is_legal(config, n) {
-            if rows.len() == 2 * (n * COLUMNS) {
-                return Begun { refusal: 0, state };
-            }
-            return Begun { refusal: 2, state };
+        VitalsEstimator {
+            progress: steps::restarted(0),
+            acc: [0; COLUMNS],
         }
-        Begun { refusal: 1, state }
+    }
+
+    // A new estimator of n blocks over lent rows, whose content is free.
+    pub fn new(rows: &[u8], n: usize, config: VitalsConfig) -> Result<VitalsEstimator, Refusal>
+        ensures answer { result ≡ new_answer config n rows.now }
+        ensures number { answered_number result ≡ new_refusal config n rows.now }
+    {
+        check_ring(rows, n, config)?;
+        Ok(Self::blank())
+    }
+
+    // The settings and the memory, then the state.
+    fn check(&self, rows: &[u8], n: usize, config: VitalsConfig) -> Result<(), Refusal>
+        ensures { result ≡ state_check config n self.now rows.now }
+    {
+        check_ring(rows, n, config)?;
+        if steps::is_valid(n, config, self.progress, &self.acc) {
+            Ok(())
+        } else {
+            Err(Refusal::Memory)
+        }
     }
 
     // One frame: its first `count` amplitudes, taken at `time`. A frame of count 0 changes nothing.
@@ -119,51 +110,44 @@ impl VitalsEstimator {
         amplitude: [u16; COLUMNS],
         count: usize,
         time: u64,
-    ) -> Pushed
+    ) -> Result<Pushed, Refusal>
         ensures { Tried config n time self rows.old amplitude count rows.new result }
     {
-        let refusal = refusal_of(rows, n, config, self);
-        if refusal == 0 {
-            if count <= COLUMNS {
-                let progress = self.progress;
-                let mut acc = self.acc;
-                let s = steps::push(rows, &mut acc, n, config, progress, &amplitude, count, time);
-                let after = s.progress;
-                let answer = s.answer;
-                return Pushed {
-                    refusal: 0,
-                    state: VitalsEstimator {
-                        progress: after,
-                        acc,
-                    },
-                    answer,
-                };
-            }
-            return Pushed {
-                refusal: 7,
-                state: self,
-                answer: Answer::NotDue,
-            };
+        self.check(rows, n, config)?;
+        if count > COLUMNS {
+            return Err(Refusal::Count);
         }
-        Pushed {
-            refusal,
-            state: self,
-            answer: Answer::NotDue,
-        }
+        let mut acc = self.acc;
+        let stepped = steps::push(
+            rows,
+            &mut acc,
+            n,
+            config,
+            self.progress,
+            &amplitude,
+            count,
+            time,
+        );
+        Ok(Pushed {
+            state: VitalsEstimator {
+                progress: stepped.progress,
+                acc,
+            },
+            answer: stepped.answer,
+        })
     }
 
     // A state as new: the window and the open block are forgotten, and the rows are free.
-    pub fn reset(self, rows: &[u8], n: usize, config: VitalsConfig) -> Begun
-        ensures { result ≡ reset_answer config n self rows.now }
+    pub fn reset(
+        self,
+        rows: &[u8],
+        n: usize,
+        config: VitalsConfig,
+    ) -> Result<VitalsEstimator, Refusal>
+        ensures answer { result ≡ reset_answer config n self rows.now }
+        ensures number { answered_number result ≡ reset_refusal config n self rows.now }
     {
-        let refusal = refusal_of(rows, n, config, self);
-        if refusal == 0 {
-            let state = new_state();
-            return Begun { refusal, state };
-        }
-        Begun {
-            refusal,
-            state: self,
-        }
+        self.check(rows, n, config)?;
+        Self::new(rows, n, config)
     }
 }

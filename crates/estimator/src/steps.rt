@@ -3,7 +3,7 @@ ghost use Rattle.std.specs.Prelude.{◌≡◌, true, ◌≤◌, max, length};
 ghost use Rattle.window.specs.Window.{columns};
 ghost use Rattle.estimator.specs.State.{legal, bounded, waiting, in_range, ring_length, restarted_at, Took};
 
-use crate::{Answer, Progress};
+use crate::{Progress, Vitals};
 use vitals::config::VitalsConfig;
 use window::COLUMNS;
 
@@ -15,34 +15,27 @@ pub const MAX_BLOCKS: usize = 512;
 pub const MAX_DECIM: u16 = 32767;
 
 // The progress after a frame, and what the frame gave.
-#[derive(Clone, Copy)]
+#[derive(Clone, Copy, Debug, PartialEq, Eq)]
 pub struct Stepped {
     pub progress: Progress,
-    pub answer: Answer,
+    pub answer: Option<Vitals>,
 }
 
 // Whether the settings are in range: else refusal 1.
+#[tactic(auto, unfolding(crate::specs::State::legal))]
 pub fn is_legal(config: VitalsConfig, n: usize) -> bool
     ensures { result ≡ legal config n }
 {
-    if n < MIN_BLOCKS {
-        return false;
-    }
-    if MAX_BLOCKS < n {
-        return false;
-    }
-    if MAX_DECIM < config.decim {
-        return false;
-    }
-    let band = config.band;
-    vitals::band::is_usable(band, config.rate_hz)
+    (MIN_BLOCKS..=MAX_BLOCKS).contains(&n)
+        && config.decim <= MAX_DECIM
+        && vitals::band::is_usable(config.band, config.rate_hz)
 }
 
 // A setting of 0 counts as 1.
 pub(crate) fn at_least_one(x: u16) -> u32
     ensures { (result ≡ max 1 x) × (result ≤ 65535) }
 {
-    if x < 1 { 1 } else { x as u32 }
+    u32::from(x.max(1))
 }
 
 // Whether no total is above what so many frames can give.
@@ -51,12 +44,7 @@ fn totals_fit(acc: &[u32; COLUMNS], frames: u32) -> bool
     ensures { result ≡ bounded frames acc.now }
 {
     let most = frames * 65535;
-    for sc in 0..COLUMNS {
-        if most < acc[sc] {
-            return false;
-        }
-    }
-    true
+    acc.iter().all(|&total| total <= most)
 }
 
 // Whether the blocks since the last estimate are as many as they can be.
@@ -70,25 +58,16 @@ fn is_waiting(n: usize, config: VitalsConfig, progress: Progress) -> bool
 }
 
 // Whether a state is in range: else refusal 2.
+#[tactic(auto, unfolding(crate::specs::State::in_range))]
 pub fn is_valid(n: usize, config: VitalsConfig, progress: Progress, acc: &[u32; COLUMNS]) -> bool
     ensures { result ≡ in_range config n progress acc.now }
 {
-    if n <= progress.next {
-        return false;
-    }
-    if n < progress.filled {
-        return false;
-    }
-    if COLUMNS < progress.count {
-        return false;
-    }
-    if at_least_one(config.decim) <= progress.acc_n {
-        return false;
-    }
-    if totals_fit(acc, progress.acc_n) {
-        return is_waiting(n, config, progress);
-    }
-    false
+    progress.next < n
+        && progress.filled <= n
+        && progress.count <= COLUMNS
+        && progress.acc_n < at_least_one(config.decim)
+        && totals_fit(acc, progress.acc_n)
+        && is_waiting(n, config, progress)
 }
 
 // The progress of a restart: with totals that are all 0 it is a new estimator's, over rows of any content.
@@ -122,7 +101,7 @@ pub fn push(
     if count == 0 {
         return Stepped {
             progress,
-            answer: Answer::NotDue,
+            answer: None,
         };
     }
     let start = crate::block::begin(acc, progress, count);
@@ -131,7 +110,7 @@ pub fn push(
     if fed.acc_n < at_least_one(config.decim) {
         return Stepped {
             progress: fed,
-            answer: Answer::NotDue,
+            answer: None,
         };
     }
     let every = at_least_one(config.update_every);

@@ -5,13 +5,13 @@ use mathlib.Core.List.{List, [], ◌∷◌}
 use Prim.Native.Nat.{ℕ, ◌<◌, ◌≤◌}
 use native.Mathlib.Omega.{arith}
 use borrow.Author.Tests.{leb-true, leb-false, le-leb, lt-leb}
+use Rattle.std.specs.Prelude.{Some, None}
 use Rattle.fall.specs.declared.FallConfig.{FallConfig}
 use Rattle.fall.specs.declared.FallDetector.{FallDetector}
 use Rattle.fall.specs.declared.FallEvent.{FallEvent}
 use Rattle.fall.specs.declared.Phase.{Phase}
 use Rattle.fall.specs.declared.Phase.TheVariants.{Idle, Active, Burst, Settling, Refractory}
-use Rattle.fall.specs.declared.Stepped.{Stepped}
-use Rattle.fall.specs.declared.Suspicion.TheVariants.{Nothing, Fall}
+use Rattle.fall.specs.declared.Pushed.{Pushed}
 use Rattle.fall.specs.Fall.{step_of, pushed, silent, raised, end_of}
 use Rattle.fall.specs.Promises.{Frame, fed, says_of, Settled, OnlyWhenSettled, WheneverSettled, AllBefore, QuietAfterAnEvent, Onward, EventsApart}
 
@@ -19,7 +19,7 @@ abbrev at : FallConfig → Phase → FallDetector
 at c p = record { config = c; phase = p }
 
 -- silence is no event
-no-event : {A : Type 0} (e : FallEvent) → Nothing ≡ Fall e → A
+no-event : {A : Type 0} (e : FallEvent) → None ≡ Some e → A
 no-event e h = let z : ◌≡◌ {A = ℕ} 0 1 = cc in absurd (omega arith)
 
 -- ---- when a fall is said
@@ -30,21 +30,21 @@ record Second (a b c : Bool) (was e : FallEvent) : Type 0 where
   third : c ≡ true
   same : was ≡ e
 
-by-second : (a b c : Bool) (x y z : Phase) (was e : FallEvent)
-    → (cond a (silent x) (cond (b && c) (record { phase = y; suspicion = Fall was }) (silent z))).suspicion ≡ Fall e → Second a b c was e
-by-second true b c x y z was e h = no-event e h
-by-second false true true x y z was e h = record { first = refl; second = refl; third = refl; same = cc }
-by-second false true false x y z was e h = no-event e h
-by-second false false c x y z was e h = no-event e h
+by-second : (f : FallConfig) (a b c : Bool) (x z : Phase) (y : FallDetector) (was e : FallEvent)
+    → (cond a (silent f x) (cond (b && c) (record { detector = y; suspicion = Some was }) (silent f z))).suspicion ≡ Some e → Second a b c was e
+by-second f true b c x z y was e h = no-event e h
+by-second f false true true x z y was e h = record { first = refl; second = refl; third = refl; same = cc }
+by-second f false true false x z y was e h = no-event e h
+by-second f false false c x z y was e h = no-event e h
 
-settled_at : (c : FallConfig) (p : Phase) (f : Frame) (e : FallEvent) → says_of (at c p) f ≡ Fall e → Settled (at c p) f e
+settled_at : (c : FallConfig) (p : Phase) (f : Frame) (e : FallEvent) → says_of (at c p) f ≡ Some e → Settled (at c p) f e
 unfolding pushed step_of
 settled_at c Idle f e h = no-event e h
 settled_at c (Active s q) f e h = no-event e h
 settled_at c (Burst a p) f e h = no-event e h
 settled_at c (Refractory u) f e h = no-event e h
 settled_at c (Settling b p s) f e h =
-    let r = by-second _ _ _ _ _ _ _ e h in
+    let r = by-second _ _ _ _ _ _ _ _ e h in
     record {
       settling = ap (λ (x : FallEvent). Settling x.burst_at x.peak_permille x.still_since) r.same;
       inactive = leb-false _ _ r.first;
@@ -64,11 +64,11 @@ raises d f e s = simp (s.settling, lt-leb _ _ s.inactive, le-leb _ _ s.still, le
 
 pub whenever-settled : WheneverSettled
 unfolding pushed
-whenever-settled d f e s = ap (λ (x : Stepped). x.suspicion) (raises d f e s) ∙ ap (λ (t : ℕ). (raised d.config e.burst_at e.peak_permille e.still_since t).suspicion) (sym s.now)
+whenever-settled d f e s = ap (λ (x : Pushed). x.suspicion) (raises d f e s) ∙ ap (λ (t : ℕ). (raised d.config e.burst_at e.peak_permille e.still_since t).suspicion) (sym s.now)
 
 -- ---- the refractory time
 -- a detector that said a fall is refractory
-refractory-after : (d : FallDetector) (f : Frame) (e : FallEvent) → says_of d f ≡ Fall e
+refractory-after : (d : FallDetector) (f : Frame) (e : FallEvent) → says_of d f ≡ Some e
     → (pushed d f.wander f.time).detector ≡ at d.config (Refractory (end_of d.config f.time))
 unfolding pushed
 refractory-after d f e h = rw (raises d f e (only-when-settled d f e h))
@@ -79,7 +79,7 @@ unfolding pushed step_of
 stays c u [] all = refl
 stays c u (f ∷ fs) all = rw (lt-leb u f.time all.0) (stays c u fs all.1)
 
-silent-at : (c : FallConfig) (u : ℕ) (g : Frame) → says_of (at c (Refractory u)) g ≡ Nothing
+silent-at : (c : FallConfig) (u : ℕ) (g : Frame) → says_of (at c (Refractory u)) g ≡ None
 unfolding pushed step_of
 silent-at c u g = refl
 

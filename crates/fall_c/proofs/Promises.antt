@@ -2,11 +2,11 @@
 use mathlib.Core.Path.{◌≡◌, refl}
 use mathlib.Core.Bool.{Bool, true, false, cond}
 use native.Mathlib.Omega.{arith}
+use Rattle.std.specs.Prelude.{Option, Some, None}
 use Rattle.fall.specs.declared.FallConfig.{FallConfig}
 use Rattle.fall.specs.declared.Phase.{Phase}
 use Rattle.fall.specs.declared.Phase.TheVariants.{Idle}
-use Rattle.fall.specs.declared.Suspicion.{Suspicion}
-use Rattle.fall.specs.declared.Suspicion.TheVariants.{Nothing, Fall}
+use Rattle.fall.specs.declared.FallEvent.{FallEvent}
 use Rattle.fall.specs.Fall.{pushed}
 use Rattle.fall_words.specs.declared.Words.{Words}
 use Rattle.fall_words.specs.Stored.{words_of, phase_of, legal}
@@ -16,9 +16,9 @@ use Rattle.fall_c.specs.Promises.{Taken, NeverRefused}
 use Rattle.fall_c.specs.declared.FallPushed.{FallPushed}
 
 -- an event is no refusal
-said-taken : (s : Suspicion) → (said_of s).refusal ≡ 0
-said-taken Nothing = refl
-said-taken (Fall e) = refl
+said-taken : (s : Option FallEvent) → (said_of s).refusal ≡ 0
+said-taken None = refl
+said-taken (Some e) = refl
 
 -- a state's words
 state-taken : (c : FallConfig) (p : Phase) → Taken c (words_of p)
@@ -26,7 +26,7 @@ unfolding pushed_words
 state-taken c p w t = rw (legal-words p) (said-taken (pushed (record { config = c; phase = phase_of (words_of p) }) w t).suspicion)
 
 -- words that are not refused are a state's after the frame
-after : (b : Bool) (c : FallConfig) (ws : Words) (p : Phase) (s : Suspicion)
+after : (b : Bool) (c : FallConfig) (ws : Words) (p : Phase) (s : Option FallEvent)
     → let r : FallPushed = cond b (record { words = words_of p; said = said_of s }) (record { words = ws; said = silent_said 2 }) in r.said.refusal ≡ 0 → Taken c r.words
 after true c ws p s e = state-taken c p
 after false c ws p s e = absurd (omega (arith, e))

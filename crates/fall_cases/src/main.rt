@@ -1,83 +1,64 @@
 // Replays recorded frames of the fall machine, by value and lent: two lines for each. `stdout` holds what the Rust answered.
 #![tactic(auto)]
 
-ghost use Rattle.std.specs.Prelude.{◌≡◌, ◌≤◌, length};
-ghost use Rattle.fall.specs.Fall.{pushed};
+ghost use Rattle.std.specs.Prelude.{◌≤◌, length};
 
-use cases::{Case, number, text};
-use fall::{FallConfig, FallDetector, Phase, Pushed, Quiet, Suspicion};
-use std::io;
-use std::io::Input;
+use fall::{FallConfig, FallDetector, FallEvent, Phase};
+use std::{fmt, io};
 
 // The state, and what it holds in the Rust's order.
-fn state(rt: &impl Print, phase: Phase) -> io::Result<()> {
-    match phase {
-        Phase::Idle => text(rt, b" idle")?,
-        Phase::Active { since, quiet_since } => {
-            text(rt, b" active")?;
-            number(rt, since)?;
-            if let Quiet::Since(q) = quiet_since {
-                number(rt, q)?;
-            }
-        }
-        Phase::Burst { at, peak } => {
-            text(rt, b" burst")?;
-            number(rt, at)?;
-            number(rt, peak as u64)?;
-        }
-        Phase::Settling {
-            burst_at,
-            peak,
-            still_since,
-        } => {
-            text(rt, b" settling")?;
-            number(rt, burst_at)?;
-            number(rt, peak as u64)?;
-            number(rt, still_since)?;
-        }
-        Phase::Refractory { until } => {
-            text(rt, b" refractory")?;
-            number(rt, until)?;
+#[derive(Clone, Copy)]
+struct State(Phase);
+
+impl fmt::Display for State {
+    fn fmt<W: fmt::Write>(&self, f: &mut fmt::Formatter<W>) -> fmt::Result {
+        match self.0 {
+            Phase::Idle => write!(f, " idle"),
+            Phase::Active {
+                since,
+                quiet_since: None,
+            } => write!(f, " active {since}"),
+            Phase::Active {
+                since,
+                quiet_since: Some(quiet),
+            } => write!(f, " active {since} {quiet}"),
+            Phase::Burst { at, peak } => write!(f, " burst {at} {peak}"),
+            Phase::Settling {
+                burst_at,
+                peak,
+                still_since,
+            } => write!(f, " settling {burst_at} {peak} {still_since}"),
+            Phase::Refractory { until } => write!(f, " refractory {until}"),
         }
     }
-    Ok(())
 }
 
-fn event(rt: &impl Print, suspicion: Suspicion) -> io::Result<()> {
-    if let Suspicion::Fall(e) = suspicion {
-        text(rt, b" fall")?;
-        number(rt, e.burst_at)?;
-        number(rt, e.peak_permille as u64)?;
-        number(rt, e.still_since)?;
-        number(rt, e.at)?;
+// An event, or nothing.
+#[derive(Clone, Copy)]
+struct Event(Option<FallEvent>);
+
+impl fmt::Display for Event {
+    fn fmt<W: fmt::Write>(&self, f: &mut fmt::Formatter<W>) -> fmt::Result {
+        match self.0 {
+            None => Ok(()),
+            Some(e) => write!(
+                f,
+                " fall {} {} {} {}",
+                e.burst_at, e.peak_permille, e.still_since, e.at
+            ),
+        }
     }
-    Ok(())
 }
 
-// A line: the frame, the state after it and what it says. The detector after it.
-fn line(rt: &impl Print, wander: u16, now: u64, r: Pushed) -> io::Result<FallDetector> {
-    text(rt, b"frame")?;
-    number(rt, wander as u64)?;
-    number(rt, now)?;
-    let detector = r.detector;
-    let phase = detector.phase;
-    state(rt, phase)?;
-    let suspicion = r.suspicion;
-    event(rt, suspicion)?;
-    cases::end_line(rt)?;
-    Ok(detector)
-}
-
-// A frame of a detector that is lent: what a caller of `push_mut` does.
-fn push_lent(d: FallDetector, wander: u16, now: u64) -> Pushed
-    ensures { result ≡ pushed d wander now }
-{
-    let mut detector = d;
-    let suspicion = fall::push_mut(&mut detector, wander, now);
-    Pushed {
-        detector,
-        suspicion,
-    }
+// A line: the frame, the state after it and what it says.
+fn line(
+    rt: &impl Print,
+    wander: u16,
+    now: u64,
+    phase: Phase,
+    suspicion: Option<FallEvent>,
+) -> io::Result<()> {
+    println!(rt; "frame {wander} {now}{}{}", State(phase), Event(suspicion))
 }
 
 // The two machines: one goes by value, one is lent.
@@ -87,10 +68,13 @@ struct Machines {
     lent: FallDetector,
 }
 
-fn both(config: FallConfig) -> Machines {
-    Machines {
-        value: FallDetector::new(config),
-        lent: FallDetector::new(config),
+impl Machines {
+    fn new(config: FallConfig) -> Machines {
+        let machine = FallDetector::new(config);
+        Machines {
+            value: machine,
+            lent: machine,
+        }
     }
 }
 
@@ -100,8 +84,8 @@ const SETTINGS: usize = 46;
 fn begin(rt: &impl Print, bytes: &[u8]) -> io::Result<Machines>
     requires { 46 ≤ length bytes.now }
 {
-    cases::text(rt, b"new\n")?;
-    Ok(both(FallConfig {
+    println!(rt; "new")?;
+    Ok(Machines::new(FallConfig {
         active_permille: num::steps::u16_at(bytes, 0),
         burst_permille: num::steps::u16_at(bytes, 2),
         still_permille: num::steps::u16_at(bytes, 4),
@@ -116,67 +100,42 @@ fn begin(rt: &impl Print, bytes: &[u8]) -> io::Result<Machines>
 // A frame: the wander, then the time.
 const FRAME: usize = 10;
 
-fn frame(rt: &impl Print, m: Machines, bytes: &[u8]) -> io::Result<Machines>
+fn frame(rt: &impl Print, machines: Machines, bytes: &[u8]) -> io::Result<Machines>
     requires { 10 ≤ length bytes.now }
 {
     let wander = num::steps::u16_at(bytes, 0);
     let now = num::steps::u64_at(bytes, 2);
-    let value = m.value;
-    let lent = m.lent;
+    let pushed = machines.value.push(wander, now);
+    line(rt, wander, now, pushed.detector.phase, pushed.suspicion)?;
+    let mut lent = machines.lent;
+    let suspicion = lent.push_mut(wander, now);
+    line(rt, wander, now, lent.phase, suspicion)?;
     Ok(Machines {
-        value: line(rt, wander, now, value.push(wander, now))?,
-        lent: line(rt, wander, now, push_lent(lent, wander, now))?,
+        value: pushed.detector,
+        lent,
     })
 }
 
-// The machines after the next case, and whether there was one.
-#[derive(Clone, Copy)]
-struct Replayed {
-    machines: Machines,
-    more: bool,
-}
-
-fn replay(rt: &(impl Input + Print), machines: Machines) -> io::Result<Replayed> {
-    let mut buf = [0u8; 64];
-    match cases::next(rt, &mut buf)? {
-        Case::Bytes(n) => {
-            let bytes = &buf[..];
-            if n == SETTINGS {
-                return Ok(Replayed {
-                    machines: begin(rt, bytes)?,
-                    more: true,
-                });
-            }
-            if n == FRAME {
-                return Ok(Replayed {
-                    machines: frame(rt, machines, bytes)?,
-                    more: true,
-                });
-            }
-            Ok(Replayed {
-                machines,
-                more: false,
-            })
-        }
-        Case::End => Ok(Replayed {
-            machines,
-            more: false,
-        }),
+// The machines after a case; none after one of another length.
+fn replay(rt: &impl Print, machines: Machines, case: &[u8]) -> io::Result<Option<Machines>> {
+    match case.len() {
+        SETTINGS => Ok(Some(begin(rt, case)?)),
+        FRAME => Ok(Some(frame(rt, machines, case)?)),
+        _ => Ok(None),
     }
 }
 
-// The most cases that are replayed.
-const MOST: usize = 100000;
-
 fn main(rt: HostRuntime) -> io::Result<()> {
-    let mut machines = both(FallConfig::normalised_default());
-    for _i in 0..MOST {
-        let r = replay(&rt, machines)?;
-        if !r.more {
+    let mut machines = Machines::new(FallConfig::normalised_default());
+    let mut buf = [0u8; 64];
+    for _ in 0..cases::MOST {
+        let Some(case) = cases::next(&rt, &mut buf)? else {
             return Ok(());
-        }
-        let next = r.machines;
-        machines = next;
+        };
+        let Some(after) = replay(&rt, machines, case)? else {
+            return Ok(());
+        };
+        machines = after;
     }
     Ok(())
 }

@@ -2,28 +2,45 @@
 #![tactic(auto)]
 
 ghost use Rattle.std.specs.Prelude.{◌≡◌};
-ghost use Rattle.fall_words.specs.Stored.{words, phase_of, words_of, legal};
-
-use fall::{Phase, Quiet};
+ghost use Rattle.fall_words.specs.Stored.{tag_number, Tags, words, words_of, loaded};
 
 pub mod steps;
 
-// Tags.
-pub const IDLE: u8 = 0;
+use fall::Phase;
+use refusal::Refusal;
 
-pub const ACTIVE: u8 = 1;
+// The kinds of state that have words of their own.
+#[derive(Clone, Copy, Debug, PartialEq, Eq, Hash)]
+pub enum Tag {
+    Idle,
+    Active,
+    Quietened,
+    Burst,
+    Settling,
+    Refractory,
+}
 
-pub const QUIETENED: u8 = 2;
+impl TryFrom<u8> for Tag {
+    type Error = Refusal;
 
-pub const BURST: u8 = 3;
+    ghost try_from_gives = { Tags };
 
-pub const SETTLING: u8 = 4;
-
-pub const REFRACTORY: u8 = 5;
+    fn try_from(number: u8) -> Result<Tag, Refusal> {
+        match number {
+            0 => Ok(Tag::Idle),
+            1 => Ok(Tag::Active),
+            2 => Ok(Tag::Quietened),
+            3 => Ok(Tag::Burst),
+            4 => Ok(Tag::Settling),
+            5 => Ok(Tag::Refractory),
+            _ => Err(Refusal::Memory),
+        }
+    }
+}
 
 // Active since a; quietened: active since a, quiet since b; burst at a; settling: burst at a, still since b; refractory until a.
 #[repr(C)]
-#[derive(Clone, Copy)]
+#[derive(Clone, Copy, Debug, PartialEq, Eq)]
 pub struct Words {
     pub tag: u8,
     pub peak: u16,
@@ -32,73 +49,75 @@ pub struct Words {
 }
 
 impl Words {
-    fn new(tag: u8, peak: u16, a: u64, b: u64) -> Words
-        ensures { result ≡ words tag peak a b }
+    fn new(tag: Tag, peak: u16, a: u64, b: u64) -> Words
+        ensures { result ≡ words (tag_number tag) peak a b }
     {
-        Words { tag, peak, a, b }
-    }
-}
-
-#[tactic(auto, unfolding(crate::specs::Stored::words_of))]
-pub fn words_of(phase: Phase) -> Words
-    ensures { result ≡ words_of phase }
-{
-    match phase {
-        Phase::Idle => Words::new(IDLE, 0, 0, 0),
-        Phase::Active { since, quiet_since } => match quiet_since {
-            Quiet::Never => Words::new(ACTIVE, 0, since, 0),
-            Quiet::Since(q) => Words::new(QUIETENED, 0, since, q),
-        },
-        Phase::Burst { at, peak } => Words::new(BURST, peak, at, 0),
-        Phase::Settling {
-            burst_at,
+        Words {
+            tag: tag as u8,
             peak,
-            still_since,
-        } => Words::new(SETTLING, peak, burst_at, still_since),
-        Phase::Refractory { until } => Words::new(REFRACTORY, 0, until, 0),
+            a,
+            b,
+        }
     }
 }
 
-// Any other tag stands for Idle.
-#[tactic(auto, unfolding(crate::specs::Stored::phase_of))]
-fn stands_for(words: Words) -> Phase
-    ensures { result ≡ phase_of words }
-{
-    let Words { tag, peak, a, b } = words;
-    match tag {
-        ACTIVE => Phase::Active {
-            since: a,
-            quiet_since: Quiet::Never,
-        },
-        QUIETENED => Phase::Active {
-            since: a,
-            quiet_since: Quiet::Since(b),
-        },
-        BURST => Phase::Burst { at: a, peak },
-        SETTLING => Phase::Settling {
-            burst_at: a,
-            peak,
-            still_since: b,
-        },
-        REFRACTORY => Phase::Refractory { until: a },
-        _ => Phase::Idle,
+impl From<Phase> for Words {
+    ghost from_gives = { λ phase words. words ≡ words_of phase };
+
+    #[tactic(auto, unfolding(crate::specs::Stored::words_of))]
+    fn from(phase: Phase) -> Words {
+        match phase {
+            Phase::Idle => Words::new(Tag::Idle, 0, 0, 0),
+            Phase::Active {
+                since,
+                quiet_since: None,
+            } => Words::new(Tag::Active, 0, since, 0),
+            Phase::Active {
+                since,
+                quiet_since: Some(quiet),
+            } => Words::new(Tag::Quietened, 0, since, quiet),
+            Phase::Burst { at, peak } => Words::new(Tag::Burst, peak, at, 0),
+            Phase::Settling {
+                burst_at,
+                peak,
+                still_since,
+            } => Words::new(Tag::Settling, peak, burst_at, still_since),
+            Phase::Refractory { until } => Words::new(Tag::Refractory, 0, until, 0),
+        }
     }
 }
 
-// Words are legal if storing what they load gives them again.
-#[tactic(auto, unfolding(crate::specs::Stored::legal))]
-pub fn is_legal(words: Words) -> bool
-    ensures { result ≡ legal words }
-{
-    let again = words_of(stands_for(words));
-    if again.tag != words.tag {
-        return false;
+// Refused unless storing what the words load gives them again.
+impl TryFrom<Words> for Phase {
+    type Error = Refusal;
+
+    ghost try_from_gives = { λ words r. r ≡ loaded words };
+
+    #[tactic(auto, unfolding(crate::specs::Stored::phase_of, crate::specs::Stored::words_of, crate::specs::Stored::legal))]
+    fn try_from(words: Words) -> Result<Phase, Refusal> {
+        let Words { tag, peak, a, b } = words;
+        let phase = match Tag::try_from(tag)? {
+            Tag::Idle => Phase::Idle,
+            Tag::Active => Phase::Active {
+                since: a,
+                quiet_since: None,
+            },
+            Tag::Quietened => Phase::Active {
+                since: a,
+                quiet_since: Some(b),
+            },
+            Tag::Burst => Phase::Burst { at: a, peak },
+            Tag::Settling => Phase::Settling {
+                burst_at: a,
+                peak,
+                still_since: b,
+            },
+            Tag::Refractory => Phase::Refractory { until: a },
+        };
+        if Words::from(phase) == words {
+            Ok(phase)
+        } else {
+            Err(Refusal::Memory)
+        }
     }
-    if again.peak != words.peak {
-        return false;
-    }
-    if again.a != words.a {
-        return false;
-    }
-    again.b == words.b
 }

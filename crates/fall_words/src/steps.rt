@@ -9,5 +9,5 @@ pub fn phase_of(words: Words) -> Phase
     requires { legal words ≡ true }
     ensures { result ≡ phase_of words }
 {
-    crate::stands_for(words)
+    Phase::try_from(words).unwrap()
 }

@@ -13,7 +13,8 @@ use Rattle.csi.specs.declared.Features.{Features}
 use Rattle.fingerprint.specs.Baseline.{max_frames, max_variance, fresh, good, calibrated_of, standing}
 use Rattle.fingerprint.specs.Given.{calibrated_by, NewIsGood, StaysGood, NeverRefusedBy2}
 use Rattle.fingerprint.specs.declared.Baseline.{Baseline}
-use Rattle.fingerprint.specs.declared.Calibrated.{Calibrated}
+use Rattle.std.specs.Prelude.{Result}
+use Rattle.refusal.specs.declared.Refusal.{Refusal}
 use Rattle.fingerprint.proofs.Good.{facts, fresh-good, fed-good}
 
 pub new-is-good : NewIsGood
@@ -23,7 +24,7 @@ new-is-good = fresh-good
 step : (b : Baseline) (f : Features) → good b ≡ true → f.variance ≤ max_variance → good (standing b (calibrated_of b f)) ≡ true
 unfolding calibrated_of
 step b f g v =
-    let P : Calibrated → Type 0 = λ c. good (standing b c) ≡ true in
+    let P : Result Baseline Refusal → Type 0 = λ c. good (standing b c) ≡ true in
     cond-holds P (not (good b)) _ _ (λ _. g)
     (λ _. cond-holds P (ltb max_subcarriers f.count) _ _ (λ _. g)
     (λ _. cond-holds P (eqb f.count 0) _ _ (λ _. g)

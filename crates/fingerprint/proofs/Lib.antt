@@ -1,4 +1,3 @@
-pub mod Answers
 pub mod Given
 pub mod Good
 pub mod Ranges

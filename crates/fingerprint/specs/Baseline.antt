@@ -1,11 +1,11 @@
 -- The baseline of calibrated variances, and the distance from it (document 01, "Amplitudes and baseline"; fingerprint.rs). Assumes nothing.
-use Rattle.std.specs.Prelude.{Bool, cond, not, ◌&&◌, List, ℕ, ◌+◌, ◌*◌, ◌/◌, min, ltb, leb, eqb, length}
+use Rattle.std.specs.Prelude.{Result, Ok, Err, Bool, cond, not, ◌&&◌, List, ℕ, ◌+◌, ◌*◌, ◌/◌, min, ltb, leb, eqb, length}
+use Rattle.std.specs.Result.{result_unwrap_or}
+use Rattle.refusal.specs.declared.Refusal.{Refusal}
 use Rattle.num.specs.Sum.{apart, total}
 use Rattle.csi.specs.Layout.{max_subcarriers}
 use Rattle.csi.specs.declared.Features.{Features}
 use Rattle.fingerprint.specs.declared.Baseline.{Baseline}
-use Rattle.fingerprint.specs.declared.Calibrated.{Calibrated}
-use Rattle.fingerprint.specs.declared.Reading.{Reading}
 
 -- the most frames, and the largest variance of 32 bits
 abbrev pub max_frames : ℕ
@@ -48,44 +48,34 @@ mean_refusal b = cond (good b) 0 2
 abbrev pub distance_refusal : Baseline → Features → ℕ
 distance_refusal b f = cond (not (good b)) 2 (cond (ltb max_subcarriers f.count) 7 0)
 
-unfoldable pub calibrated_of : Baseline → Features → Calibrated
+-- a baseline in range, or the refusal
+abbrev pub range_check : Baseline → Result (Unit {0}) Refusal
+range_check b = cond (good b) (Ok tt) (Err Refusal.Memory)
+
+unfoldable pub calibrated_of : Baseline → Features → Result Baseline Refusal
 unfolding good
 calibrated_of b f =
-    cond (not (good b)) (Calibrated.Refused 2)
-    (cond (ltb max_subcarriers f.count) (Calibrated.Refused 7)
-    (cond (eqb f.count 0) (Calibrated.Baseline b)
-    (cond (eqb b.frames max_frames) (Calibrated.Refused 8)
-    (Calibrated.Baseline (fed b f.variance)))))
+    cond (not (good b)) (Err Refusal.Memory)
+    (cond (ltb max_subcarriers f.count) (Err Refusal.Count)
+    (cond (eqb f.count 0) (Ok b)
+    (cond (eqb b.frames max_frames) (Err Refusal.Full)
+    (Ok (fed b f.variance)))))
 
-unfoldable pub mean_answer : Baseline → Reading
+unfoldable pub mean_answer : Baseline → Result ℕ Refusal
 unfolding good mean_of
-mean_answer b = cond (good b) (Reading.Value (mean_of b)) (Reading.Refused 2)
+mean_answer b = cond (good b) (Ok (mean_of b)) (Err Refusal.Memory)
 
-unfoldable pub distance_answer : Baseline → Features → Reading
+unfoldable pub distance_answer : Baseline → Features → Result ℕ Refusal
 unfolding good mean_of distance_from
 distance_answer b f =
-    cond (not (good b)) (Reading.Refused 2)
-    (cond (ltb max_subcarriers f.count) (Reading.Refused 7)
-    (cond (eqb f.count 0) (Reading.Value 0)
-    (Reading.Value (distance_from (mean_of b) f.variance))))
+    cond (not (good b)) (Err Refusal.Memory)
+    (cond (ltb max_subcarriers f.count) (Err Refusal.Count)
+    (cond (eqb f.count 0) (Ok 0)
+    (Ok (distance_from (mean_of b) f.variance))))
 
--- ---- the paper's number of each answer, 0 where nothing is refused
-abbrev pub calibrated_number : Calibrated → ℕ
-calibrated_number (Calibrated.Baseline b) = 0
-calibrated_number (Calibrated.Refused number) = number
-
-abbrev pub reading_number : Reading → ℕ
-reading_number (Reading.Value v) = 0
-reading_number (Reading.Refused number) = number
-
--- ---- what is left of an answer: the baseline that stands, and the value, 0 where it is refused
-abbrev pub standing : Baseline → Calibrated → Baseline
-standing b (Calibrated.Baseline next) = next
-standing b (Calibrated.Refused number) = b
-
-abbrev pub value_of : Reading → ℕ
-value_of (Reading.Value v) = v
-value_of (Reading.Refused number) = 0
+-- the baseline that stands after an answer
+abbrev pub standing : Baseline → Result Baseline Refusal → Baseline
+standing b answer = result_unwrap_or answer b
 
 -- the baseline of these calibrated variances
 unfoldable pub baseline_of : List ℕ → Baseline

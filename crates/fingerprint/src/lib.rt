@@ -2,9 +2,11 @@
 #![tactic(auto)]
 
 ghost use Rattle.std.specs.Prelude.{◌≡◌};
-ghost use Rattle.fingerprint.specs.Baseline.{good, fresh, calibrate_refusal, mean_refusal, distance_refusal, calibrated_of, mean_answer, distance_answer, calibrated_number, reading_number};
+ghost use Rattle.refusal.specs.Refusal.{answered_number};
+ghost use Rattle.fingerprint.specs.Baseline.{good, fresh, range_check, calibrate_refusal, mean_refusal, distance_refusal, calibrated_of, mean_answer, distance_answer};
 
 use csi::Features;
+use refusal::Refusal;
 
 pub mod steps;
 
@@ -15,24 +17,10 @@ pub const MAX_VARIANCE: u64 = 4294967295;
 
 // The sum of the calibrated variances and their number.
 #[repr(C)]
-#[derive(Clone, Copy)]
+#[derive(Clone, Copy, Debug, PartialEq, Eq)]
 pub struct Baseline {
     pub sum: u64,
     pub frames: u32,
-}
-
-// What calibrating answers: the next baseline, or a refusal's number.
-#[derive(Clone, Copy)]
-pub enum Calibrated {
-    Baseline(Baseline),
-    Refused(u8),
-}
-
-// What asking for a number answers.
-#[derive(Clone, Copy)]
-pub enum Reading {
-    Value(u32),
-    Refused(u8),
 }
 
 impl Baseline {
@@ -44,60 +32,65 @@ impl Baseline {
     }
 
     // Whether a baseline is in range: at most 65,535 frames, and a sum that so many variances can have.
+    #[tactic(auto, unfolding(crate::specs::Baseline::good))]
     pub fn is_good(self) -> bool
         ensures { result ≡ good self }
     {
         if MAX_FRAMES < self.frames {
             return false;
         }
-        self.sum <= self.frames as u64 * MAX_VARIANCE
+        self.sum <= u64::from(self.frames) * MAX_VARIANCE
     }
 
-    // One frame more. Refusals: 2 out of range, 7 count above 64, 8 full. A frame of count 0 is ignored.
-    pub fn calibrate(self, features: Features) -> Calibrated
+    // That it is in range.
+    fn check(self) -> Result<(), Refusal>
+        ensures { result ≡ range_check self }
+    {
+        if self.is_good() {
+            Ok(())
+        } else {
+            Err(Refusal::Memory)
+        }
+    }
+
+    // One frame more. Refused out of range, with a count above 64, and when full. A frame of count 0 is ignored.
+    #[tactic(auto, unfolding(crate::specs::Baseline::calibrated_of))]
+    pub fn calibrate(self, features: Features) -> Result<Self, Refusal>
         ensures answer { result ≡ calibrated_of self features }
-        ensures number { calibrated_number result ≡ calibrate_refusal self features }
+        ensures number { answered_number result ≡ calibrate_refusal self features }
     {
-        if self.is_good() {
-            if csi::MAX_SUBCARRIERS < features.count as usize {
-                return Calibrated::Refused(7);
-            }
-            if features.count == 0 {
-                return Calibrated::Baseline(self);
-            }
-            if self.frames == MAX_FRAMES {
-                return Calibrated::Refused(8);
-            }
-            return Calibrated::Baseline(steps::calibrate(self, features.variance));
+        self.check()?;
+        features.check()?;
+        if features.count == 0 {
+            return Ok(self);
         }
-        Calibrated::Refused(2)
+        if self.frames == MAX_FRAMES {
+            return Err(Refusal::Full);
+        }
+        Ok(steps::calibrate(self, features.variance))
     }
 
-    // The mean variance, 0 until calibrated. Refusal: 2 out of range.
-    pub fn mean(self) -> Reading
+    // The mean variance, 0 until calibrated. Refused out of range.
+    #[tactic(auto, unfolding(crate::specs::Baseline::mean_answer))]
+    pub fn mean(self) -> Result<u32, Refusal>
         ensures answer { result ≡ mean_answer self }
-        ensures number { reading_number result ≡ mean_refusal self }
+        ensures number { answered_number result ≡ mean_refusal self }
     {
-        if self.is_good() {
-            return Reading::Value(steps::mean(self));
-        }
-        Reading::Refused(2)
+        self.check()?;
+        Ok(steps::mean(self))
     }
 
-    // How far a frame is from the baseline, in permille; 0 without a mean. Refusals: 2 out of range, 7 count above 64.
-    pub fn distance(self, features: Features) -> Reading
+    // How far a frame is from the baseline, in permille; 0 without a mean. Refused out of range, and with a count above 64.
+    #[tactic(auto, unfolding(crate::specs::Baseline::distance_answer))]
+    pub fn distance(self, features: Features) -> Result<u32, Refusal>
         ensures answer { result ≡ distance_answer self features }
-        ensures number { reading_number result ≡ distance_refusal self features }
+        ensures number { answered_number result ≡ distance_refusal self features }
     {
-        if self.is_good() {
-            if csi::MAX_SUBCARRIERS < features.count as usize {
-                return Reading::Refused(7);
-            }
-            if features.count == 0 {
-                return Reading::Value(0);
-            }
-            return Reading::Value(steps::distance(self, features.variance));
+        self.check()?;
+        features.check()?;
+        if features.count == 0 {
+            return Ok(0);
         }
-        Reading::Refused(2)
+        Ok(steps::distance(self, features.variance))
     }
 }

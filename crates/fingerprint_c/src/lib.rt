@@ -1,11 +1,14 @@
-// Calls of fingerprint from C and Rust. An answer that is an enum is its number and its values.
+// Calls of fingerprint from C and Rust: an answer is a refusal's number, 0 for none, beside a value.
 #![tactic(auto)]
 
 ghost use Rattle.std.specs.Prelude.{◌≡◌};
-ghost use Rattle.fingerprint.specs.Baseline.{calibrated_of, mean_answer, distance_answer, calibrated_number, reading_number, standing, value_of};
+ghost use Rattle.std.specs.Result.{result_unwrap_or};
+ghost use Rattle.refusal.specs.Refusal.{answered_number};
+ghost use Rattle.fingerprint.specs.Baseline.{calibrated_of, mean_answer, distance_answer, standing};
 
 use csi::Features;
-use fingerprint::{Baseline, Calibrated, Reading};
+use fingerprint::Baseline;
+use refusal::{Refusal, answered_number};
 
 #[repr(C)]
 #[derive(Clone, Copy)]
@@ -17,17 +20,12 @@ pub struct Next {
 // One frame more; a refusal gives the baseline back as it was.
 #[unsafe(no_mangle)]
 pub extern "C" fn fingerprint_calibrate(b: Baseline, f: Features) -> Next
-    ensures { (result.refusal ≡ calibrated_number (calibrated_of b f)) × (result.baseline ≡ standing b (calibrated_of b f)) }
+    ensures { (result.refusal ≡ answered_number (calibrated_of b f)) × (result.baseline ≡ standing b (calibrated_of b f)) }
 {
-    match b.calibrate(f) {
-        Calibrated::Baseline(next) => Next {
-            refusal: 0,
-            baseline: next,
-        },
-        Calibrated::Refused(k) => Next {
-            refusal: k,
-            baseline: b,
-        },
+    let answer = b.calibrate(f);
+    Next {
+        refusal: answered_number(answer),
+        baseline: answer.unwrap_or(b),
     }
 }
 
@@ -38,31 +36,28 @@ pub struct Number {
     pub value: u32,
 }
 
-fn as_number(r: Reading) -> Number
-    ensures { (result.refusal ≡ reading_number r) × (result.value ≡ value_of r) }
-{
-    match r {
-        Reading::Value(v) => Number {
-            refusal: 0,
-            value: v,
-        },
-        Reading::Refused(k) => Number {
-            refusal: k,
-            value: 0,
-        },
+// A refusal has the value 0.
+impl From<Result<u32, Refusal>> for Number {
+    ghost from_gives = { λ answer n. (n.refusal ≡ answered_number answer) × (n.value ≡ result_unwrap_or answer 0) };
+
+    fn from(answer: Result<u32, Refusal>) -> Self {
+        Number {
+            refusal: answered_number(answer),
+            value: answer.unwrap_or(0),
+        }
     }
 }
 
 #[unsafe(no_mangle)]
 pub extern "C" fn fingerprint_mean(b: Baseline) -> Number
-    ensures { (result.refusal ≡ reading_number (mean_answer b)) × (result.value ≡ value_of (mean_answer b)) }
+    ensures { (result.refusal ≡ answered_number (mean_answer b)) × (result.value ≡ result_unwrap_or (mean_answer b) 0) }
 {
-    as_number(b.mean())
+    b.mean().into()
 }
 
 #[unsafe(no_mangle)]
 pub extern "C" fn fingerprint_distance(b: Baseline, f: Features) -> Number
-    ensures { (result.refusal ≡ reading_number (distance_answer b f)) × (result.value ≡ value_of (distance_answer b f)) }
+    ensures { (result.refusal ≡ answered_number (distance_answer b f)) × (result.value ≡ result_unwrap_or (distance_answer b f) 0) }
 {
-    as_number(b.distance(f))
+    b.distance(f).into()
 }

@@ -1,106 +1,105 @@
-// Words and numbers put into a slice as text. The caller has seen to the room.
-ghost use Rattle.std.specs.Prelude.{◌≡◌, ◌+◌, ◌≤◌, length, drop};
-ghost use Rattle.lines.specs.Lines.{decimal, number, verdict_text, rate_text, fall_text};
-ghost use Rattle.lines.specs.Printed.{Printed};
+// A line as it grows, by words and numbers. The caller sees to the room.
+ghost use Rattle.std.specs.Prelude.{◌≡◌, ◌+◌, ◌≤◌, ◌++◌, [], length};
+ghost use Rattle.lines.specs.Lines.{line_max, number, verdict_text, rate_text, fall_text};
 
+use crate::LINE_MAX;
+use itoa::Buffer;
 use num::steps::put;
+use std::marker::Model;
 
-// The most digits of a number of 64 bits.
-const DIGITS: usize = 20;
-
-fn digit(d: u64) -> u8
-    requires { d ≤ 9 }
-    ensures { result ≡ 48 + d }
-{
-    48 + d as u8
+#[derive(Drop)]
+pub(crate) struct Line {
+    bytes: [u8; LINE_MAX],
+    len: usize,
 }
 
-// Puts the digits of n at the end of `out`: from which place on they stand.
-fn digits(n: u64, out: &mut [u8]) -> usize
-    requires { length out.old ≡ 20 }
-    ensures out_after { drop result out.new ≡ decimal n }
-    ensures upper_bound { result ≤ 20 }
-{
-    let mut rest = n;
-    let mut i = DIGITS;
-    while 0 < i {
-        i -= 1;
-        out[i] = digit(rest % 10);
-        if rest < 10 {
-            return i;
+// Clauses see the text.
+impl Model for Line {
+    ghost use Rattle.std.specs.Prelude.{◌≤◌, ℕ, List, take};
+    ghost use Rattle.lines.specs.Lines.{line_max};
+
+    ghost Value = { List ℕ };
+
+    ghost view = { λ l. take l.len l.bytes };
+
+    ghost invariant = { λ l. l.len ≤ line_max };
+}
+
+impl Line {
+    pub(crate) fn new() -> Line
+        ensures { result ≡ [] }
+    {
+        Line {
+            bytes: [0; LINE_MAX],
+            len: 0,
         }
-        rest = rest / 10;
     }
-    i
-}
 
-// The next place is returned, here and below.
-pub(crate) fn put_word(word: &[u8], out: &mut [u8], at: usize) -> usize
-    requires { at + length word.now ≤ length out.old }
-    ensures { Printed word.now at out.old result out.new }
-{
-    put(word, &mut out[at..]);
-    at + word.len()
-}
-
-fn put_decimal(n: u64, out: &mut [u8], at: usize) -> usize
-    requires { at + 20 ≤ length out.old }
-    ensures printed { Printed (decimal n) at out.old result out.new }
-    ensures upper_bound { result ≤ at + 20 }
-{
-    let mut text = [0u8; 20];
-    let from = digits(n, &mut text);
-    put_word(&text[from..], out, at)
-}
-
-// The number, with a space before it.
-pub(crate) fn put_number(n: u64, out: &mut [u8], at: usize) -> usize
-    requires { at + 21 ≤ length out.old }
-    ensures printed { Printed (number n) at out.old result out.new }
-    ensures upper_bound { result ≤ at + 21 }
-{
-    let next = put_word(b" ", out, at);
-    put_decimal(n, out, next)
-}
-
-// 0 warming, 1 absent, else present; with the word before it.
-pub(crate) fn put_verdict(tag: u8, out: &mut [u8], at: usize) -> usize
-    requires { at + 13 ≤ length out.old }
-    ensures printed { Printed (verdict_text tag) at out.old result out.new }
-    ensures upper_bound { result ≤ at + 13 }
-{
-    if tag == 0 {
-        return put_word(b"watch warming", out, at);
+    pub(crate) fn text(&self) -> &[u8]
+        ensures { result.now ≡ self.now }
+    {
+        &self.bytes[..self.len]
     }
-    if tag == 1 {
-        return put_word(b"watch absent", out, at);
-    }
-    put_word(b"watch present", out, at)
-}
 
-// A rate: 0 not due, 1 not accepted, else its number.
-pub(crate) fn put_rate(state: u8, bpm: u16, out: &mut [u8], at: usize) -> usize
-    requires { at + 21 ≤ length out.old }
-    ensures printed { Printed (rate_text state bpm) at out.old result out.new }
-    ensures upper_bound { result ≤ at + 21 }
-{
-    if state == 0 {
-        return put_word(b" -", out, at);
+    pub(crate) fn word(&mut self, word: &[u8])
+        requires { length self.old + length word.now ≤ line_max }
+        ensures printed { self.new ≡ self.old ++ word.now }
+        ensures longer { length self.new ≡ length self.old + length word.now }
+    {
+        put(word, &mut self.bytes[self.len..]);
+        self.len += word.len();
     }
-    if state == 1 {
-        return put_word(b" ~", out, at);
-    }
-    put_number(bpm as u64, out, at)
-}
 
-// A fall: 0 none, else one.
-pub(crate) fn put_fall(fall: u8, out: &mut [u8], at: usize) -> usize
-    requires { at + 5 ≤ length out.old }
-    ensures printed { Printed (fall_text fall) at out.old result out.new }
-    ensures upper_bound { result ≤ at + 5 }
-{
-    if fall == 0 {
-        return put_word(b" -", out, at);
+    // The number, with a space before it.
+    #[tactic(auto, using(crate::proofs::Digits::number_behind))]
+    pub(crate) fn number(&mut self, n: u64)
+        requires { length self.old + 21 ≤ line_max }
+        ensures printed { self.new ≡ self.old ++ number n }
+        ensures upper_bound { length self.new ≤ length self.old + 21 }
+    {
+        let mut buffer = Buffer::new();
+        self.word(b" ");
+        self.word(buffer.format(n).as_bytes());
     }
-    put_word(b" fall", out, at)
+
+    // 0 warming, 1 absent, else present; with the word before it.
+    #[tactic(auto, unfolding(crate::specs::Lines::verdict_text))]
+    pub(crate) fn verdict(&mut self, tag: u8)
+        requires { length self.old + 13 ≤ line_max }
+        ensures printed { self.new ≡ self.old ++ verdict_text tag }
+        ensures upper_bound { length self.new ≤ length self.old + 13 }
+    {
+        match tag {
+            0 => self.word(b"watch warming"),
+            1 => self.word(b"watch absent"),
+            _ => self.word(b"watch present"),
+        }
+    }
+
+    // A rate: 0 not due, 1 not accepted, else its number.
+    #[tactic(auto, unfolding(crate::specs::Lines::rate_text))]
+    pub(crate) fn rate(&mut self, state: u8, bpm: u16)
+        requires { length self.old + 21 ≤ line_max }
+        ensures printed { self.new ≡ self.old ++ rate_text state bpm }
+        ensures upper_bound { length self.new ≤ length self.old + 21 }
+    {
+        match state {
+            0 => self.word(b" -"),
+            1 => self.word(b" ~"),
+            _ => self.number(u64::from(bpm)),
+        }
+    }
+
+    // A fall: 0 none, else one.
+    #[tactic(auto, unfolding(crate::specs::Lines::fall_text))]
+    pub(crate) fn fall(&mut self, fall: u8)
+        requires { length self.old + 5 ≤ line_max }
+        ensures printed { self.new ≡ self.old ++ fall_text fall }
+        ensures upper_bound { length self.new ≤ length self.old + 5 }
+    {
+        match fall {
+            0 => self.word(b" -"),
+            _ => self.word(b" fall"),
+        }
+    }
 }

@@ -4,6 +4,7 @@ pub mod Arrays
 pub mod Bits
 pub mod Building
 pub mod Byte
+pub mod Cast
 pub mod Clamp
 pub mod Cond
 pub mod Counting

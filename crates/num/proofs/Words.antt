@@ -7,6 +7,7 @@ use native.Mathlib.Numerals.{add-one}
 use native.Mathlib.Omega.{arith}
 use lib.ListN.{length, get_or, take, drop, length-take, length-drop}
 use lib.Seq.{get_or-drop, length-take-le, drop-cons, drop-drop, drop-append-add, take-add}
+use Rattle.std.proofs.lemmas.List.{drop_all}
 use Rattle.num.specs.Words.{le, le_at, le_bytes, put_le}
 use Rattle.num.proofs.Each.{at_every}
 use Rattle.num.proofs.Parts.{part_at, front-put}
@@ -65,6 +66,15 @@ le-bound (b ∷ bs) f =
     let h : b < 256 = f 0 in let k = le-bound bs (λ i. f (suc i)) in
     let p : 256 ^ suc (length bs) ≡ 256 * 256 ^ length bs = omega arith in
     omega arith
+
+-- a word byte by byte, and its end
+pub le-from : (s : List ℕ) (i : ℕ) → i < length s → le (drop i s) ≡ get_or s i 0 + 256 * le (drop (suc i) s)
+unfolding le
+le-from s i h = rw (drop-cons s i 0 h)
+
+pub le-past : (s : List ℕ) (n : ℕ) → length s ≤ n → le (drop n s) ≡ 0
+unfolding le
+le-past s n h = rw (drop_all n s h)
 
 -- a word in two parts: the first j bytes, and the k after them
 le-append : (xs ys : List ℕ) → le (xs ++ ys) ≡ le xs + 256 ^ length xs * le ys

@@ -65,115 +65,84 @@ pub fn isqrt(v: u32) -> u32
 pub fn wrap_i16(x: i64) -> i16
     ensures { result ≡ wrap16 x }
 {
-    let r = x % 65536;
-    let low = -32768;
-    let high = 32767;
-    if r < low {
-        return (r + 65536) as i16;
-    }
-    if high < r {
-        return (r - 65536) as i16;
-    }
-    r as i16
+    let bits = (x.cast_unsigned() % 65536) as u16;
+    bits.cast_signed()
 }
 
 // The difference, wrapped: Rust's `a.wrapping_sub(b)`.
 pub fn wrapping_sub_i16(a: i16, b: i16) -> i16
     ensures { result ≡ wrap16 (a -ℤ b) }
 {
-    wrap_i16(a as i64 - b as i64)
+    a.wrapping_sub(b)
 }
 
 // A byte as a signed number: Rust's `b as i8`.
 pub fn byte_to_i8(b: u8) -> i8
     ensures { result ≡ signed8 b }
 {
-    if b < 128 {
-        b as i8
-    } else {
-        (b as i16 - 256) as i8
-    }
+    u8::cast_signed(b)
 }
 
 // The bits of x as an unsigned number: Rust's `x as u8`.
 pub fn i8_to_byte(x: i8) -> u8
     ensures { result ≡ mod_z x 256 }
 {
-    if x < 0 {
-        (x as i32 + 256) as u8
-    } else {
-        x as u8
-    }
+    i8::cast_unsigned(x)
 }
 
 // The bits of x as an unsigned number: Rust's `x as u16`.
 pub fn i16_to_u16(x: i16) -> u16
     ensures { result ≡ mod_z x 65536 }
 {
-    if x < 0 {
-        (x as i32 + 65536) as u16
-    } else {
-        x as u16
-    }
+    i16::cast_unsigned(x)
 }
 
 // The bits of x as an unsigned number: Rust's `x as u32`.
 pub fn i32_to_u32(x: i32) -> u32
     ensures { result ≡ mod_z x 4294967296 }
 {
-    if x < 0 {
-        (x as i64 + 4294967296) as u32
-    } else {
-        x as u32
-    }
+    i32::cast_unsigned(x)
 }
 
 // The signed number that bits stand for: Rust's `b as i32`.
 pub fn u32_to_i32(b: u32) -> i32
     ensures { result ≡ signed32 b }
 {
-    if b < 2147483648 {
-        b as i32
-    } else {
-        (b as i64 - 4294967296) as i32
-    }
+    u32::cast_signed(b)
 }
 
 // The magnitude: Rust's `x.unsigned_abs()`.
 pub fn unsigned_abs_i8(x: i8) -> u32
     ensures { result ≡ nat_abs x }
 {
-    if x < 0 { -(x as i32) as u32 } else { x as u32 }
+    u32::from(x.unsigned_abs())
 }
 
 pub fn unsigned_abs_i32(x: i32) -> u64
     ensures { result ≡ nat_abs x }
 {
-    if x < 0 { -(x as i64) as u64 } else { x as u64 }
+    u64::from(x.unsigned_abs())
 }
 
 pub fn unsigned_abs_i64(x: i64) -> u64
     ensures { result ≡ nat_abs x }
 {
-    if x < 0 { (-1 - x) as u64 + 1 } else { x as u64 }
+    x.unsigned_abs()
 }
 
 // A magnitude with its sign put back.
 pub fn with_sign(negative: bool, size: u16) -> i32
     ensures { result ≡ with_sign negative size }
 {
-    if negative {
-        -(size as i32)
-    } else {
-        size as i32
-    }
+    let size = i32::from(size);
+    if negative { -size } else { size }
 }
 
 // The magnitude of the signed number that a byte holds: Rust's `(b as i8).unsigned_abs()`.
 pub fn byte_magnitude(b: u8) -> u32
     ensures { (result ≡ nat_abs (signed8 b)) × (result ≤ 128) }
 {
-    if b < 128 { b as u32 } else { 256 - b as u32 }
+    u32::from(b.cast_signed().unsigned_abs())
 }
 
 // ---- distances and sums that stop at the end of their type
@@ -182,40 +151,27 @@ pub fn byte_magnitude(b: u8) -> u32
 pub fn abs_diff_u16(a: u16, b: u16) -> u64
     ensures { (result ≡ apart a b) × (result ≤ 65535) }
 {
-    if a < b {
-        (b - a) as u64
-    } else {
-        (a - b) as u64
-    }
+    u64::from(a.abs_diff(b))
 }
 
 pub fn abs_diff_u32(x: u32, y: u32) -> u64
     ensures { (result ≡ apart x y) × (result ≤ 4294967295) }
 {
-    if x < y {
-        (y - x) as u64
-    } else {
-        (x - y) as u64
-    }
+    u64::from(x.abs_diff(y))
 }
 
 // The difference, 0 where it would be negative: Rust's `a.saturating_sub(b)`.
 pub fn saturating_sub(a: u64, b: u64) -> u64
     ensures { result ≡ a - b }
 {
-    if b < a { a - b } else { 0 }
+    a.saturating_sub(b)
 }
 
 // The sum, at most the largest u64: Rust's `a.saturating_add(b)`.
 pub fn saturating_add(a: u64, b: u64) -> u64
     ensures { result ≡ min 18446744073709551615 (a + b) }
 {
-    let left = 18446744073709551615 - a;
-    if b <= left {
-        a + b
-    } else {
-        18446744073709551615
-    }
+    a.saturating_add(b)
 }
 
 // ---- sums of products
@@ -227,8 +183,7 @@ pub const MAX_TERMS: usize = 4294967296;
 fn terms(a: usize, b: usize) -> usize
     ensures { result ≡ min a (min b max_terms) }
 {
-    let n = if b < MAX_TERMS { b } else { MAX_TERMS };
-    if a < n { a } else { n }
+    a.min(b.min(MAX_TERMS))
 }
 
 // The sum of a[k]·b[k], exact, as far as both slices go (Rust's `zip`), over the first 2^32 elements at most.
@@ -237,12 +192,8 @@ pub fn dot_i16(a: &[i16], b: &[i16]) -> i64
 {
     let n = terms(a.len(), b.len());
     let mut sum: i64 = 0;
-    let mut k = 0;
-    while k < n {
-        let x = a[k];
-        let y = b[k];
-        sum = sum + x as i64 * y as i64;
-        k += 1;
+    for (x, y) in a[..n].iter().zip(b) {
+        sum += i64::from(*x) * i64::from(*y);
     }
     sum
 }

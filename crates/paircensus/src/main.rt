@@ -3,17 +3,8 @@
 
 use std::io;
 
-fn print(rt: &impl Print, name: &[u8], counts: &[u32]) -> io::Result<()> {
-    for k in 0..counts.len() {
-        cases::entry(rt, name, k as u64, counts[k] as u64)?;
-    }
-    Ok(())
-}
-
 fn main(rt: HostRuntime) -> io::Result<()> {
     let census = census::count();
-    let amplitude = census.amplitude;
-    let sector = census.sector;
-    print(&rt, b"amplitude", &amplitude)?;
-    print(&rt, b"sector", &sector)
+    cases::list(&rt, "amplitude", &census.amplitude)?;
+    cases::list(&rt, "sector", &census.sector)
 }

@@ -1,65 +1,82 @@
 -- What the tests of the code say of the answers that `specs/Phases.antt` defines. Assumes nothing.
-use mathlib.Core.Path.{◌≡◌, sym, ap, ◌∙◌}
+use mathlib.Core.Path.{◌≡◌, refl, ap, subst, ◌∙◌}
+use mathlib.Core.Bool.{Bool, true, false, cond, ◌&&◌}
 use mathlib.Core.List.{List, ◌++◌, map}
-use Prim.Native.Nat.{ℕ, ◌-◌, ◌≤◌, ◌<◌}
+use mathlib.Core.Logic.{by_cases}
+use Prim.Native.Nat.{ℕ, ◌-◌, ◌≤◌}
+use native.Mathlib.Decide.{dec_lt}
 use native.Mathlib.Omega.{arith}
-use borrow.Author.Tests.{le-leb, lt-leb, ne_eqb}
+use lib.Dec.{leb}
+use borrow.Author.Tests.{le-leb, lt-leb}
 use lib.IntN.{ℤ, pos}
-use lib.ListN.{length, take, replicate, length-map}
-use lib.Seq.{take_at, length-take-le}
-use Rattle.csi.specs.Layout.{max_subcarriers, layout_of, entries_of, frame_refusal}
+use lib.ListN.{length, replicate, length-map}
+use lib.Seq.{length-take-le}
+use Rattle.std.specs.Prelude.{Ok, Err}
+use Rattle.refusal.specs.Refusal.{answered_number}
+use Rattle.refusal.specs.declared.Refusal.{Refusal}
+use Rattle.csi.specs.Layout.{max_subcarriers, layout_of, entries_of, frame_refusal, frame_check}
 use Rattle.csi.specs.declared.Layout.{Layout}
+use Rattle.csi.proofs.Answers.{passes}
 use Rattle.phase.specs.Angle.{entry_angle}
 use Rattle.phase.specs.Line.{phases_of}
-use Rattle.phase.specs.Phases.{sanitised, frame_phases, refused, accepted, phases_answer, angles_refusal, used, angles_answer}
+use Rattle.phase.specs.Phases.{sanitised, frame_phases, phases_answer, angles_refusal, used, angles_answer}
 use Rattle.phase.specs.declared.Angles.{Angles}
 use Rattle.phase.specs.declared.Phases.{Phases}
 
--- the phases of n angles as they stand in an array
+-- the phases of angles as they stand in an array
 abbrev pub in_array : (phase : List ℤ) (n : ℕ) → Phases
 in_array phase n = record { phase = phase; count = n }
 
-pub its-phases : (angles phase : List ℤ) (n : ℕ) → length angles ≡ n → phase ≡ phases_of angles ++ replicate (max_subcarriers - n) (pos 0) → in_array phase n ≡ sanitised angles
+pub its-phases : (angles phase : List ℤ) → phase ≡ phases_of angles ++ replicate (max_subcarriers - length angles) (pos 0) → in_array phase (length angles) ≡ sanitised angles
 unfolding sanitised
-its-phases angles phase n e p = rw (e, p)
+its-phases angles phase p = rw p
 
 -- ---- a sample
 
 module _ (iq : List ℕ) (tag : ℕ) where
-  pub no-phases : (number : ℕ) → number ≡ frame_refusal (length iq) tag → (number ≡ 0 → ⊥) → refused number ≡ phases_answer iq tag
+  pub phases-pass : frame_refusal (length iq) tag ≡ 0 → phases_answer iq tag ≡ Ok (frame_phases iq tag)
   unfolding phases_answer
-  no-phases number e h = rw (← e, ne_eqb number 0 h)
+  phases-pass z = rw (passes (length iq) tag z)
 
-  pub some-phases : (p : Phases) → frame_refusal (length iq) tag ≡ 0 → p ≡ frame_phases iq tag → accepted p ≡ phases_answer iq tag
+  pub phases-stop : (e : Refusal) → frame_check (length iq) tag ≡ Err e → phases_answer iq tag ≡ Err e
   unfolding phases_answer
-  some-phases p e ep = rw (e, ep)
+  phases-stop e h = rw h
 
--- the angles of the layout's entries stand at the front of an array
-module _ (iq : List ℕ) (tag : ℕ) (l : Layout) (el : l ≡ layout_of tag) (n : ℕ) (en : n ≡ length (entries_of l)) (angles phase rest : List ℤ) where
-  abbrev own : List ℤ
-  own = map (entry_angle iq) (entries_of l)
-
-  pub frame-phases : angles ≡ own ++ rest → phase ≡ phases_of (take n angles) ++ replicate (max_subcarriers - n) (pos 0) → in_array phase n ≡ frame_phases iq tag
+-- the angles of the layout's entries
+module _ (iq : List ℕ) (tag : ℕ) (l : Layout) (el : l ≡ layout_of tag) (n : ℕ) (en : n ≡ length (entries_of l)) where
+  pub frame-phases : (angles phase : List ℤ) → angles ≡ map (entry_angle iq) (entries_of l)
+      → phase ≡ phases_of angles ++ replicate (max_subcarriers - length angles) (pos 0) → in_array phase n ≡ frame_phases iq tag
   unfolding frame_phases
-  frame-phases ea ep =
-      let long : length own ≡ n = length-map (entries_of l) (entry_angle iq) ∙ sym en in
-      let front : take n angles ≡ own = ap (take n) ea ∙ take_at own rest n long in
-      rw (← el) (its-phases own phase n long (ep ∙ rw front))
+  frame-phases angles phase ea ep =
+      let long : n ≡ length angles = en ∙ rw ea (omega (arith, length-map (entries_of l) (entry_angle iq))) in
+      rw (long, ← el, ← ea) (its-phases angles phase ep)
 
 -- ---- hand-made angles
 
 module _ (a : Angles) where
-  pub few : a.count < 2 → refused 7 ≡ angles_answer a
-  unfolding angles_answer angles_refusal
-  few h = rw (lt-leb 2 a.count h)
-
-  pub many : 2 ≤ a.count → max_subcarriers < a.count → refused 7 ≡ angles_answer a
-  unfolding angles_answer angles_refusal
-  many l h = rw (le-leb 2 a.count l, lt-leb a.count max_subcarriers h)
+  pub outside : (2 ≤ a.count → a.count ≤ max_subcarriers → ⊥) → Err Refusal.Count ≡ angles_answer a
+  unfolding angles_answer
+  outside h =
+      by_cases (dec_lt a.count 2)
+      (λ l. rw (lt-leb 2 a.count l))
+      (λ l. let two : 2 ≤ a.count = omega arith in
+      by_cases (dec_lt max_subcarriers a.count)
+      (λ m. rw (le-leb 2 a.count two, lt-leb a.count max_subcarriers m))
+      (λ m. absurd (h two (omega arith))))
 
   pub enough : (phase : List ℤ) → 2 ≤ a.count → a.count ≤ max_subcarriers → length a.angle ≡ max_subcarriers
-      → phase ≡ phases_of (used a) ++ replicate (max_subcarriers - a.count) (pos 0) → accepted (in_array phase a.count) ≡ angles_answer a
-  unfolding angles_answer angles_refusal
+      → phase ≡ phases_of (used a) ++ replicate (max_subcarriers - length (used a)) (pos 0) → Ok (in_array phase a.count) ≡ angles_answer a
+  unfolding angles_answer
   enough phase l h long e =
+      let n : length (used a) ≡ a.count = length-take-le a.count a.angle (omega arith) in
       rw (le-leb 2 a.count l, le-leb a.count max_subcarriers h)
-      (ap accepted (its-phases (used a) phase a.count (length-take-le a.count a.angle (omega arith)) e))
+      (ap Ok (subst (λ (m : ℕ). in_array phase m ≡ sanitised (used a)) n (its-phases (used a) phase e)))
+
+  -- the number of what is answered
+  pub angles-number : answered_number (angles_answer a) ≡ angles_refusal a.count
+  unfolding angles_answer angles_refusal
+  angles-number = go (leb 2 a.count && leb a.count max_subcarriers)
+    where
+      go : (b : Bool) → answered_number (cond b (Ok (sanitised (used a))) (Err Refusal.Count)) ≡ cond b 0 7
+      go true = refl
+      go false = refl

@@ -1,6 +1,8 @@
 pub mod Answers
 pub mod Cases
 pub mod Fits
+pub mod Lines
+pub mod Made
 pub mod Octants
 pub mod Points
 pub mod Ranges

@@ -1,16 +1,12 @@
 -- What the code's steps say of the definitions in `specs/Angle.antt`. Assumes nothing.
 use mathlib.Core.Path.{◌≡◌, ap, ◌∙◌}
-use mathlib.Core.Bool.{true, false}
 use Prim.Native.Nat.{ℕ, ◌-◌, ◌*◌, ◌≤◌, ◌<◌, min, max}
 use native.Mathlib.Omega.{arith}
 use borrow.Author.Tests.{le-leb, lt-leb, eq-eqb, ne_eqb}
-use lib.IntN.{ℤ, pos, neg_ℤ, nat_abs}
-use lib.Signed.{lt_z}
 use lib.ListN.{get_or}
-use Rattle.num.specs.Wrap.{wrap16}
 use Rattle.num.proofs.Nearest.{nearest-le}
 use Rattle.phase.specs.Tables.{atan_octant, entries}
-use Rattle.phase.specs.Angle.{table_index, octant_angle, first_quadrant, mirror_x, mirror_y, angle_of, quarter_turn}
+use Rattle.phase.specs.Angle.{table_index, octant_angle, first_quadrant, quarter_turn}
 
 -- a ratio of at most 1 is in the table
 pub index-lt : (lo hi : ℕ) → lo ≤ hi → 1 ≤ hi → table_index lo hi < entries
@@ -40,13 +36,3 @@ module _ (ay ax : ℕ) {a : ℕ} (e : a ≡ octant_angle (min ay ax) (max ay ax)
   above-diagonal h =
       let l : min ay ax ≡ ax = omega arith in let m : max ay ax ≡ ay = omega arith in
       rw (lt-leb ay ax h) (ap (λ b. quarter_turn - b) (e ∙ rw (l, m)))
-
--- the two half turns
-module _ (y x : ℤ) {a : ℕ} (e : a ≡ mirror_x x (first_quadrant (nat_abs y) (nat_abs x))) where
-  pub below-axis : lt_z y (pos 0) ≡ true → wrap16 (neg_ℤ (pos a)) ≡ angle_of y x
-  unfolding angle_of mirror_y
-  below-axis t = rw (t, e)
-
-  pub above-axis : lt_z y (pos 0) ≡ false → wrap16 (pos a) ≡ angle_of y x
-  unfolding angle_of mirror_y
-  above-axis t = rw (t, e)

@@ -13,13 +13,6 @@ pub sum_k-le : (n : ℕ) → n ≤ max_subcarriers → sum_k n ≤ max_subcarrie
 unfolding sum_k
 sum_k-le n h = omega (arith, pairs-le n h)
 
--- Σk² before the division by 6
-pub cubes-le : (n : ℕ) → n ≤ max_subcarriers → ((n - 1) * n ≤ 2 ^ 40) × ((n - 1) * n * (2 * n - 1) ≤ 2 ^ 40)
-cubes-le n h = (
-  below-le (λ n. (n - 1) * n) (λ n. 2 ^ 40) (max_subcarriers + 1) tt n (omega arith),
-  below-le (λ n. (n - 1) * n * (2 * n - 1)) (λ n. 2 ^ 40) (max_subcarriers + 1) tt n (omega arith),
-)
-
 -- both terms of the denominator: the one that is taken off is not the larger
 pub terms-le : (n : ℕ) → n ≤ max_subcarriers → (n * sum_kk n ≤ 2 ^ 40) × (sum_k n * sum_k n ≤ n * sum_kk n)
 unfolding sum_k sum_kk

@@ -1,4 +1,4 @@
-// The arctangent table, and one entry of it.
+// The arctangent table.
 ghost use Rattle.std.specs.Prelude.{◌≡◌, ◌≤◌, ◌<◌, get_or};
 ghost use Rattle.phase.specs.Tables.{atan_octant, entries, eighth_turn};
 
@@ -25,17 +25,24 @@ const ATAN_OCTANT: [u16; ENTRIES] = [
     7942, 7963, 7984, 8005, 8026, 8047, 8068, 8089, 8110, 8131, 8151, 8172, 8192,
 ];
 
-// The table, for a local that is lent to its readers: a constant is copied wherever it is named.
-pub fn atan_table() -> [u16; ENTRIES]
-    ensures { result ≡ atan_octant }
-{
-    ATAN_OCTANT
+// The table as a local that is lent to its readers: a constant is copied wherever it is named.
+#[derive(Drop)]
+pub struct AtanTable {
+    pub entries: [u16; ENTRIES],
+    pub ghost is_table: { entries ≡ atan_octant },
 }
 
-// Entry i of the table.
-pub(crate) fn atan_octant(table: &[u16; ENTRIES], i: usize) -> u16
-    requires { (i < entries) × (table.now ≡ atan_octant) }
-    ensures { (result ≡ get_or atan_octant i 0) × (result ≤ eighth_turn) }
-{
-    table[i]
+impl AtanTable {
+    pub fn new() -> Self {
+        AtanTable {
+            entries: ATAN_OCTANT,
+        }
+    }
+
+    pub(crate) fn entry(&self, i: usize) -> u16
+        requires { i < entries }
+        ensures { (result ≡ get_or atan_octant i 0) × (result ≤ eighth_turn) }
+    {
+        self.entries[i]
+    }
 }

@@ -1,12 +1,9 @@
 // Replays the recorded angles and phases: a line for each case. `stdout` holds what the Rust answered.
 #![tactic(auto)]
 
-ghost use Rattle.std.specs.Prelude.{◌<◌};
-
-use cases::Case;
-use phase::{Angles, MeasuredPhases};
+use phase::{Angles, Phases};
+use refusal::Refusal;
 use std::io;
-use std::io::Input;
 
 // What the first byte of a case says: the bytes behind it are two signed bytes, y and x; a layout tag and I/Q bytes; a count
 // and 64 angles, low byte first.
@@ -14,106 +11,49 @@ const ANGLE: u8 = 0;
 
 const SAMPLE: u8 = 1;
 
-// The bytes of a case of angles, behind the first.
-const ANGLES: usize = 129;
-
 const MOST_ANGLES: usize = 64;
 
-fn short(rt: &impl Print, x: i16) -> io::Result<()> {
-    cases::signed(rt, x as i32)
-}
-
-// The refusal, or how many phases are in use and the whole array.
-fn answer(rt: &impl Print, m: MeasuredPhases) -> io::Result<()> {
-    if m.refusal == 0 {
-        let p = m.phases;
-        let phase = p.phase;
-        cases::text(rt, b"phases")?;
-        cases::number(rt, p.count as u64)?;
-        for k in 0..MOST_ANGLES {
-            let a = phase[k];
-            short(rt, a)?;
-        }
-    } else {
-        cases::text(rt, b"refused")?;
-        cases::number(rt, m.refusal as u64)?;
-    }
-    Ok(())
-}
-
-fn angle(rt: &impl Print, bytes: &[u8]) -> io::Result<()> {
-    if 2 <= bytes.len() {
-        cases::text(rt, b"angle")?;
-        short(
-            rt,
-            phase::atan2_brad(num::byte_to_i8(bytes[0]), num::byte_to_i8(bytes[1])),
-        )?;
-    }
-    Ok(())
-}
-
-fn wide(v: u16) -> i64 {
-    v as i64
-}
-
-// Angle k of a case of angles.
-fn angle_of(bytes: &[u8], k: usize) -> i16 {
-    if bytes.len() < ANGLES {
-        return 0;
-    }
-    if MOST_ANGLES <= k {
-        return 0;
-    }
-    num::wrap_i16(wide(num::steps::u16_at(bytes, 1 + 2 * k)))
-}
-
-fn hand_made(rt: &impl Print, bytes: &[u8], count: u8) -> io::Result<()> {
-    let mut angle = [0i16; MOST_ANGLES];
-    for k in 0..MOST_ANGLES {
-        angle[k] = angle_of(bytes, k);
-    }
-    let angles = Angles { angle, count };
-    answer(rt, angles.phases())
-}
-
-fn line(rt: &impl Print, bytes: &[u8]) -> io::Result<()> {
-    if bytes.len() < 2 {
-        return Ok(());
-    }
-    if bytes[0] == SAMPLE {
-        answer(rt, phase::frame::phases(&bytes[2..], bytes[1]))?;
-    } else {
-        if bytes[0] == ANGLE {
-            angle(rt, &bytes[1..])?;
-        } else {
-            hand_made(rt, &bytes[1..], bytes[1])?;
-        }
-    }
-    cases::end_line(rt)
-}
-
-// Replays the next case; false at the end of them.
-fn replay(rt: &(impl Input + Print)) -> io::Result<bool> {
-    let mut buf = [0u8; 512];
-    match cases::next(rt, &mut buf)? {
-        Case::Bytes(n) => {
-            if n <= 512 {
-                line(rt, &buf[0..n])?;
+// How many phases are in use and the whole array, or the refusal.
+fn answer(rt: &impl Print, measured: Result<Phases, Refusal>) -> io::Result<()> {
+    match measured {
+        Ok(p) => {
+            print!(rt; "phases {}", p.count)?;
+            for phase in &p.phase {
+                print!(rt; " {phase}")?;
             }
-            Ok(true)
+            Ok(())
         }
-        Case::End => Ok(false),
+        Err(refusal) => print!(rt; "refused {}", refusal.number()),
     }
 }
 
-// The most cases that are replayed.
-const MOST: usize = 100000;
+fn angle(rt: &impl Print, y: u8, x: u8) -> io::Result<()> {
+    let angle = phase::atan2_brad(y.cast_signed(), x.cast_signed());
+    print!(rt; "angle {angle}")
+}
+
+// The angles of a case; zeros where it holds fewer than 64.
+fn hand_made(count: u8, bytes: &[u8]) -> Angles {
+    let mut angle = [0i16; MOST_ANGLES];
+    if 2 * MOST_ANGLES <= bytes.len() {
+        for (a, &word) in angle.iter_mut().zip(bytes.as_chunks::<2>().0) {
+            *a = i16::from_le_bytes(word);
+        }
+    }
+    Angles { angle, count }
+}
+
+fn line(rt: &impl Print, case: &[u8]) -> io::Result<()> {
+    match case {
+        [SAMPLE, tag, iq @ ..] => answer(rt, phase::frame::phases(iq, *tag))?,
+        [ANGLE, y, x, ..] => angle(rt, *y, *x)?,
+        [ANGLE, _] => {}
+        [_, count, angles @ ..] => answer(rt, hand_made(*count, angles).phases())?,
+        _ => return Ok(()),
+    }
+    println!(rt; "")
+}
 
 fn main(rt: HostRuntime) -> io::Result<()> {
-    for _i in 0..MOST {
-        if !replay(&rt)? {
-            return Ok(());
-        }
-    }
-    Ok(())
+    cases::each::<512, _>(&rt, |case| line(&rt, case))
 }

@@ -6,7 +6,7 @@ use Rattle.detector.proofs.Order.{no-order-by}
 use Rattle.vectors.specs.Vector.{column_ppm}
 use Rattle.phase_detector.specs.Wander.{angles}
 use Rattle.phase_detector.specs.Phase.{phase_kind}
-use Rattle.phase_detector.proofs.Angles.{lawful}
+use Rattle.phase_detector.specs.Laws.{lawful}
 
 pub no-order : NoOrder phase_kind
 no-order = no-order-by phase_kind (mean-has-no-order angles (sums-have-no-order angles lawful) column_ppm)

@@ -4,12 +4,9 @@ use Rattle.window.specs.Window.{columns}
 use Rattle.detector.specs.Calls.{zero_sums}
 use Rattle.detector.specs.Detector.{Kind}
 use Rattle.detector.specs.declared.Limits.{Limits}
-use Rattle.detector.specs.declared.State.{State}
-use Rattle.detector.specs.declared.Verdict.TheVariants.{Warming}
 use Rattle.vectors.specs.Vector.{bits}
 use Rattle.phase_detector.specs.declared.Config.{Config}
 use Rattle.phase_detector.specs.declared.Sums.{Sums}
-use Rattle.phase_detector.specs.declared.Answer.{Answer}
 use Rattle.phase_detector.specs.Wander.{angles, window_ppm}
 
 -- no variance is above a million, and motion is the wander in tens of ppm
@@ -29,7 +26,3 @@ no_sums = record { cos = replicate columns (pos 0); sin = replicate columns (pos
 -- the sums of w rows of zeros
 abbrev pub zero_row_sums : ℕ → Sums
 zero_row_sums w = record { cos = zero_sums angles.add angles.none angles.f w columns; sin = zero_sums angles.add angles.none angles.g w columns }
-
--- a refused push
-abbrev pub refused_answer : ℕ → State → Sums → Answer
-refused_answer number s sums = record { refusal = number; state = s; sums = sums; verdict = Warming }

@@ -1,144 +1,110 @@
-// Presence from the circular variance of the phase over the last W frames (phase.rs, `PhaseDetector`). The rows are lent,
-// the state and the sums go in and come back by value. Every call refuses what does not fit.
+// Presence from the circular variance of the phase over the last W frames (phase.rs, `PhaseDetector`): its settings and its sums of columns. The
+// detector itself is `sliding`'s, of these sums.
 #![tactic(auto)]
 
 ghost use Rattle.std.specs.Prelude.{◌≡◌};
-ghost use Rattle.window.specs.Window.{columns};
-ghost use Rattle.detector.specs.Calls.{Begins, Resets, Calls};
-ghost use Rattle.phase_detector.specs.Phase.{phase_kind, limits_of, entries, refused_answer};
+ghost use Rattle.vectors.specs.Vector.{bits, column_ppm};
+ghost use Rattle.phase_detector.specs.Wander.{ColumnRange};
+ghost use Rattle.phase_detector.specs.Phase.{phase_kind, limits_of, entries};
+ghost use Rattle.phase_detector.specs.Laws.{entrywise, columnwise};
 
-use detector::{State, Verdict};
+use detector::Limits;
+use sliding::ColumnSums;
+use vectors::tables::SinTable;
 use window::COLUMNS;
+use window::share::Rows;
 
 pub mod steps;
 
 // Thresholds in parts per million, and the shortest time, in microseconds, from the last motion to absence.
 #[repr(C)]
-#[derive(Clone, Copy)]
+#[derive(Clone, Copy, Debug, PartialEq, Eq, Hash)]
 pub struct Config {
     pub on_ppm: u32,
     pub off_ppm: u32,
     pub hold: u64,
 }
 
+impl From<Config> for Limits {
+    ghost from_gives = { λ config limits. limits ≡ limits_of config };
+
+    fn from(config: Config) -> Limits {
+        Limits {
+            on: config.on_ppm,
+            off: config.off_ppm,
+            hold: config.hold,
+        }
+    }
+}
+
 // The sums of the cosines and of the sines of the columns' angles, over all rows of the ring.
 #[repr(C)]
-#[derive(Clone, Copy)]
+#[derive(Clone, Copy, PartialEq, Eq)]
 pub struct Sums {
     pub cos: [i32; COLUMNS],
     pub sin: [i32; COLUMNS],
 }
 
-// What `new` and `reset` answer: refusal 0 is none.
-#[derive(Clone, Copy)]
-pub struct Outcome {
-    pub refusal: u8,
-    pub state: State,
-    pub sums: Sums,
-}
+impl ColumnSums for Sums {
+    type Entry = i16;
 
-// What `push` answers; the verdict is Warming where it refuses.
-#[derive(Clone, Copy)]
-pub struct Answer {
-    pub refusal: u8,
-    pub state: State,
-    pub sums: Sums,
-    pub verdict: Verdict,
-}
+    type Table = SinTable;
 
-// A refused push.
-fn refused(refusal: u8, state: State, sums: Sums) -> Answer
-    ensures { result ≡ refused_answer refusal state sums }
-{
-    Answer {
-        refusal,
-        state,
-        sums,
-        verdict: Verdict::Warming,
-    }
-}
+    ghost kind = { phase_kind };
 
-// A new detector over `rows`, which it clears. Refuses a window size by 1 and a length by 2.
-pub fn new(rows: &mut [u8], w: usize) -> Outcome
-    ensures { Begins phase_kind w columns rows.old result.refusal result.state rows.new result.sums.cos result.sums.sin }
-{
-    if detector::steps::is_window(w) {
-        if rows.len() != 2 * (w * COLUMNS) {
-            return Outcome {
-                refusal: 2,
-                state: State::new(),
-                sums: steps::no_sums(),
-            };
-        }
-        return Outcome {
-            refusal: 0,
-            state: State::new(),
-            sums: steps::begin(rows, w),
-        };
-    }
-    Outcome {
-        refusal: 1,
-        state: State::new(),
-        sums: steps::no_sums(),
-    }
-}
+    ghost firsts = { λ sums. sums.cos };
 
-// Forgets the window. Refuses a window size by 1, and by 2 a state, sums or rows that are not as a call leaves them.
-pub fn reset(rows: &[u8], w: usize, state: State, sums: Sums) -> Outcome
-    ensures { Resets phase_kind w columns state rows.now sums.cos sums.sin result.refusal result.state result.sums.cos result.sums.sin }
-{
-    if detector::steps::is_window(w) {
-        if steps::is_valid(rows, w, state, sums) {
-            return Outcome {
-                refusal: 0,
-                state: detector::steps::reset_state(state),
-                sums,
-            };
-        }
-        return Outcome {
-            refusal: 2,
-            state,
-            sums,
-        };
-    }
-    Outcome {
-        refusal: 1,
-        state,
-        sums,
-    }
-}
+    ghost seconds = { λ sums. sums.sin };
 
-// One frame: the first `count` angles, taken at `time`. A frame of count 0 repeats the verdict. Refuses as `reset`
-// does, and a count above the columns by 7.
-pub fn push(
-    rows: &mut [u8],
-    w: usize,
-    config: Config,
-    state: State,
-    sums: Sums,
-    phase: [i16; COLUMNS],
-    count: usize,
-    time: u64,
-) -> Answer
-    ensures { Calls phase_kind (limits_of config) w columns state rows.old sums.cos sums.sin (entries phase) count time result.refusal result.state rows.new result.sums.cos result.sums.sin result.verdict }
-{
-    if detector::steps::is_window(w) {
-        if steps::is_valid(rows, w, state, sums) {
-            if COLUMNS < count {
-                return refused(7, state, sums);
-            }
-            let p = steps::push(rows, w, config, state, sums, phase, count, time);
-            let after = p.state;
-            let carried = p.sums;
-            let verdict = p.verdict;
-            return Answer {
-                refusal: 0,
-                state: after,
-                sums: carried,
-                verdict,
-            };
-        }
-        return refused(2, state, sums);
+    ghost In = { ColumnRange };
+
+    ghost term = { column_ppm };
+
+    ghost bits = { bits };
+
+    ghost entries = { entries };
+
+    fn table() -> SinTable {
+        SinTable::new()
     }
-    refused(1, state, sums)
+
+    fn bits(entry: i16) -> u16 {
+        entry.cast_unsigned()
+    }
+
+    fn top() -> u32 {
+        steps::MAX_PPM
+    }
+
+    fn unit() -> u32 {
+        steps::MOTION_UNIT
+    }
+
+    fn none() -> Sums {
+        steps::no_sums()
+    }
+
+    fn zeros(w: usize) -> Sums {
+        steps::zero_sums(w)
+    }
+
+    fn add(&mut self, table: &SinTable, sc: usize, x: u16) {
+        self.put(sc, steps::added(table, self.at(sc), x));
+    }
+
+    fn replace(&mut self, table: &SinTable, sc: usize, old: u16, x: u16) {
+        self.put(sc, steps::moved(table, self.at(sc), old, x));
+    }
+
+    fn same(&self, other: &Sums) -> bool {
+        self == other
+    }
+
+    fn wander(&self, rows: Rows, sc: usize) -> u32 {
+        vectors::steps::column_ppm(rows, self.at(sc))
+    }
+
+    ghost entrywise = { entrywise };
+
+    ghost columnwise = { columnwise };
 }

@@ -1,13 +1,10 @@
 -- Presence is the detector of the wander of amplitudes (document 01, "Presence"; csi.rs, `PresenceDetector`). Assumes nothing.
-use Rattle.std.specs.Prelude.{ℕ, replicate}
+use Rattle.std.specs.Prelude.{replicate}
 use Rattle.window.specs.Window.{columns}
 use Rattle.detector.specs.Detector.{Kind}
 use Rattle.detector.specs.declared.Limits.{Limits}
-use Rattle.detector.specs.declared.State.{State}
-use Rattle.detector.specs.declared.Verdict.TheVariants.{Warming}
 use Rattle.presence.specs.declared.Config.{Config}
 use Rattle.presence.specs.declared.Sums.{Sums}
-use Rattle.presence.specs.declared.Answer.{Answer}
 use Rattle.presence.specs.Wander.{amplitudes, window_wander}
 
 -- the wander has 16 bits, and motion is the wander itself
@@ -23,7 +20,3 @@ normalised_default = record { on_permille = 32; off_permille = 23; hold = 300000
 
 abbrev pub no_sums : Sums
 no_sums = record { sum = replicate columns 0; sumsq = replicate columns 0 }
-
--- a refused push
-abbrev pub refused_answer : ℕ → State → Sums → Answer
-refused_answer number s sums = record { refusal = number; state = s; sums = sums; verdict = Warming }

@@ -1,20 +1,22 @@
-// Presence from the wander of the amplitudes over the last W frames (csi.rs, `PresenceDetector`). The rows are lent, the
-// state and the sums go in and come back by value. Every call refuses what does not fit.
+// Presence from the wander of the amplitudes over the last W frames (csi.rs, `PresenceDetector`): its settings and its sums of columns. The detector
+// itself is `sliding`'s, of these sums.
 #![tactic(auto)]
 
 ghost use Rattle.std.specs.Prelude.{◌≡◌};
-ghost use Rattle.window.specs.Window.{columns};
-ghost use Rattle.detector.specs.Calls.{Begins, Resets, Calls};
-ghost use Rattle.presence.specs.Presence.{presence_kind, limits_of, normalised_default, refused_answer};
+ghost use Rattle.presence.specs.Wander.{ColumnRange, column_wander};
+ghost use Rattle.presence.specs.Presence.{presence_kind, limits_of, normalised_default};
+ghost use Rattle.presence.specs.Laws.{entrywise, columnwise};
 
-use detector::{State, Verdict};
+use detector::Limits;
+use sliding::ColumnSums;
 use window::COLUMNS;
+use window::share::Rows;
 
 pub mod steps;
 
 // Thresholds in permille, and the shortest time, in microseconds, from the last motion to absence.
 #[repr(C)]
-#[derive(Clone, Copy)]
+#[derive(Clone, Copy, Debug, PartialEq, Eq, Hash)]
 pub struct Config {
     pub on_permille: u16,
     pub off_permille: u16,
@@ -34,124 +36,87 @@ impl Config {
     }
 }
 
+impl From<Config> for Limits {
+    ghost from_gives = { λ config limits. limits ≡ limits_of config };
+
+    fn from(config: Config) -> Limits {
+        Limits {
+            on: u32::from(config.on_permille),
+            off: u32::from(config.off_permille),
+            hold: config.hold,
+        }
+    }
+}
+
 // The sums and the square sums of the columns, over all rows of the ring.
 #[repr(C)]
-#[derive(Clone, Copy)]
+#[derive(Clone, Copy, PartialEq, Eq)]
 pub struct Sums {
     pub sum: [u32; COLUMNS],
     pub sumsq: [u64; COLUMNS],
 }
 
-// What `new` and `reset` answer: refusal 0 is none.
-#[derive(Clone, Copy)]
-pub struct Outcome {
-    pub refusal: u8,
-    pub state: State,
-    pub sums: Sums,
-}
+impl ColumnSums for Sums {
+    type Entry = u16;
 
-// What `push` answers; the verdict is Warming where it refuses.
-#[derive(Clone, Copy)]
-pub struct Answer {
-    pub refusal: u8,
-    pub state: State,
-    pub sums: Sums,
-    pub verdict: Verdict,
-}
+    type Table = ();
 
-// A refused push.
-fn refused(refusal: u8, state: State, sums: Sums) -> Answer
-    ensures { result ≡ refused_answer refusal state sums }
-{
-    Answer {
-        refusal,
-        state,
-        sums,
-        verdict: Verdict::Warming,
-    }
-}
+    ghost kind = { presence_kind };
 
-// A new detector over `rows`, which it clears. Refuses a window size by 1 and a length by 2.
-pub fn new(rows: &mut [u8], w: usize) -> Outcome
-    ensures { Begins presence_kind w columns rows.old result.refusal result.state rows.new result.sums.sum result.sums.sumsq }
-{
-    if detector::steps::is_window(w) {
-        if rows.len() != 2 * (w * COLUMNS) {
-            return Outcome {
-                refusal: 2,
-                state: State::new(),
-                sums: steps::no_sums(),
-            };
-        }
-        return Outcome {
-            refusal: 0,
-            state: State::new(),
-            sums: steps::begin(rows, w),
-        };
-    }
-    Outcome {
-        refusal: 1,
-        state: State::new(),
-        sums: steps::no_sums(),
-    }
-}
+    ghost firsts = { λ sums. sums.sum };
 
-// Forgets the window. Refuses a window size by 1, and by 2 a state, sums or rows that are not as a call leaves them.
-pub fn reset(rows: &[u8], w: usize, state: State, sums: Sums) -> Outcome
-    ensures { Resets presence_kind w columns state rows.now sums.sum sums.sumsq result.refusal result.state result.sums.sum result.sums.sumsq }
-{
-    if detector::steps::is_window(w) {
-        if steps::is_valid(rows, w, state, sums) {
-            return Outcome {
-                refusal: 0,
-                state: detector::steps::reset_state(state),
-                sums,
-            };
-        }
-        return Outcome {
-            refusal: 2,
-            state,
-            sums,
-        };
-    }
-    Outcome {
-        refusal: 1,
-        state,
-        sums,
-    }
-}
+    ghost seconds = { λ sums. sums.sumsq };
 
-// One frame: the first `count` amplitudes, taken at `time`. A frame of count 0 repeats the verdict. Refuses as `reset`
-// does, and a count above the columns by 7.
-pub fn push(
-    rows: &mut [u8],
-    w: usize,
-    config: Config,
-    state: State,
-    sums: Sums,
-    amplitude: [u16; COLUMNS],
-    count: usize,
-    time: u64,
-) -> Answer
-    ensures { Calls presence_kind (limits_of config) w columns state rows.old sums.sum sums.sumsq amplitude count time result.refusal result.state rows.new result.sums.sum result.sums.sumsq result.verdict }
-{
-    if detector::steps::is_window(w) {
-        if steps::is_valid(rows, w, state, sums) {
-            if COLUMNS < count {
-                return refused(7, state, sums);
-            }
-            let p = steps::push(rows, w, config, state, sums, amplitude, count, time);
-            let after = p.state;
-            let carried = p.sums;
-            let verdict = p.verdict;
-            return Answer {
-                refusal: 0,
-                state: after,
-                sums: carried,
-                verdict,
-            };
-        }
-        return refused(2, state, sums);
+    ghost In = { ColumnRange };
+
+    ghost term = { column_wander };
+
+    ghost bits = { λ entry. entry };
+
+    ghost entries = { λ frame. frame };
+
+    fn table() {}
+
+    fn bits(entry: u16) -> u16 {
+        entry
     }
-    refused(1, state, sums)
+
+    fn top() -> u32 {
+        steps::MAX_PERMILLE
+    }
+
+    fn unit() -> u32 {
+        steps::MOTION_UNIT
+    }
+
+    fn none() -> Sums {
+        steps::no_sums()
+    }
+
+    // An amplitude of 0 adds nothing.
+    fn zeros(_w: usize) -> Sums {
+        steps::no_sums()
+    }
+
+    fn add(&mut self, _table: &(), sc: usize, x: u16) {
+        self.sum[sc] += u32::from(x);
+        self.sumsq[sc] += steps::square(x);
+    }
+
+    fn replace(&mut self, _table: &(), sc: usize, old: u16, x: u16) {
+        self.sum[sc] = self.sum[sc] - u32::from(old) + u32::from(x);
+        self.sumsq[sc] = self.sumsq[sc] - steps::square(old) + steps::square(x);
+    }
+
+    fn same(&self, other: &Sums) -> bool {
+        self == other
+    }
+
+    fn wander(&self, rows: Rows, sc: usize) -> u32 {
+        steps::column_wander(rows, self.sum[sc], self.sumsq[sc])
+    }
+
+    ghost entrywise = { entrywise };
+
+    ghost columnwise = { columnwise };
 }

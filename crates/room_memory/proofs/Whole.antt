@@ -29,40 +29,40 @@ use Rattle.room_memory.proofs.Bytes.{detector-same, progress-same, baseline-same
 
 -- ---- what the types of a state's fields give: a number a column, each within its bits
 pub record Full (s : RoomState) : Type 0 where
-  pub sum : length s.presence_sums.sum ≡ columns
-  pub sumsq : length s.presence_sums.sumsq ≡ columns
-  pub cos : length s.phase_sums.cos ≡ columns
-  pub sin : length s.phase_sums.sin ≡ columns
-  pub breathing : length s.breathing_acc ≡ columns
-  pub heart : length s.heart_acc ≡ columns
+  pub sum : length s.presence.sums.sum ≡ columns
+  pub sumsq : length s.presence.sums.sumsq ≡ columns
+  pub cos : length s.phase.sums.cos ≡ columns
+  pub sin : length s.phase.sums.sin ≡ columns
+  pub breathing : length s.breathing.acc ≡ columns
+  pub heart : length s.heart.acc ≡ columns
 
 pub record Ranged (s : RoomState) : Type 0 where
-  pub presence-wander : s.presence.wander < 4294967296
-  pub presence-motion : s.presence.last_motion < 2 ^ 64
-  pub phase-wander : s.phase.wander < 4294967296
-  pub phase-motion : s.phase.last_motion < 2 ^ 64
+  pub presence-wander : s.presence.state.wander < 4294967296
+  pub presence-motion : s.presence.state.last_motion < 2 ^ 64
+  pub phase-wander : s.phase.state.wander < 4294967296
+  pub phase-motion : s.phase.state.last_motion < 2 ^ 64
   pub baseline-sum : s.baseline.sum < 2 ^ 64
   pub peak : s.fall.peak < 65536
   pub a : s.fall.a < 2 ^ 64
   pub b : s.fall.b < 2 ^ 64
-  pub sum : (j : ℕ) → get_or s.presence_sums.sum j 0 < 2 ^ 32
-  pub sumsq : (j : ℕ) → get_or s.presence_sums.sumsq j 0 < 2 ^ 64
-  pub cos : (j : ℕ) → SFits w32 (get_or s.phase_sums.cos j (pos 0))
-  pub sin : (j : ℕ) → SFits w32 (get_or s.phase_sums.sin j (pos 0))
-  pub breathing : (j : ℕ) → get_or s.breathing_acc j 0 < 2 ^ 32
-  pub heart : (j : ℕ) → get_or s.heart_acc j 0 < 2 ^ 32
+  pub sum : (j : ℕ) → get_or s.presence.sums.sum j 0 < 2 ^ 32
+  pub sumsq : (j : ℕ) → get_or s.presence.sums.sumsq j 0 < 2 ^ 64
+  pub cos : (j : ℕ) → SFits w32 (get_or s.phase.sums.cos j (pos 0))
+  pub sin : (j : ℕ) → SFits w32 (get_or s.phase.sums.sin j (pos 0))
+  pub breathing : (j : ℕ) → get_or s.breathing.acc j 0 < 2 ^ 32
+  pub heart : (j : ℕ) → get_or s.heart.acc j 0 < 2 ^ 32
 
 -- how many bytes a state is: with the settings, the header
 pub state-long : (s : RoomState) → Full s → length (state_bytes s) ≡ state_len
 unfolding state_bytes
 state-long s f =
-    let l₁ = words_long 4 columns s.presence_sums.sum f.sum in
-    let l₂ = words_long 8 columns s.presence_sums.sumsq f.sumsq in
-    let l₃ = bits-long columns s.phase_sums.cos f.cos in
-    let l₄ = bits-long columns s.phase_sums.sin f.sin in
-    let l₅ = words_long 4 columns s.breathing_acc f.breathing in
-    let l₆ = words_long 4 columns s.heart_acc f.heart in
-    length-append (small_bytes s) (column_bytes s.presence_sums s.phase_sums s.breathing_acc s.heart_acc) ∙ simp length-append (rw (l₁, l₂, l₃, l₄, l₅, l₆) refl)
+    let l₁ = words_long 4 columns s.presence.sums.sum f.sum in
+    let l₂ = words_long 8 columns s.presence.sums.sumsq f.sumsq in
+    let l₃ = bits-long columns s.phase.sums.cos f.cos in
+    let l₄ = bits-long columns s.phase.sums.sin f.sin in
+    let l₅ = words_long 4 columns s.breathing.acc f.breathing in
+    let l₆ = words_long 4 columns s.heart.acc f.heart in
+    length-append (small_bytes s) (column_bytes s.presence.sums s.phase.sums s.breathing.acc s.heart.acc) ∙ simp length-append (rw (l₁, l₂, l₃, l₄, l₅, l₆) refl)
 
 -- the parts of what stands behind the settings
 module _ (a b c d e f rest : List ℕ) where
@@ -72,22 +72,22 @@ module _ (a b c d e f rest : List ℕ) where
 -- ---- what is stored is loaded
 module _ (m rest : List ℕ) (s : RoomState) (room : header_len ≤ length m) (stands : drop settings_len m ≡ state_bytes s ++ rest) (full : Full s) where
   abbrev heart_bytes : List ℕ
-  heart_bytes = le_all 4 s.heart_acc ++ rest
+  heart_bytes = le_all 4 s.heart.acc ++ rest
 
   abbrev breathing_bytes : List ℕ
-  breathing_bytes = le_all 4 s.breathing_acc ++ heart_bytes
+  breathing_bytes = le_all 4 s.breathing.acc ++ heart_bytes
 
   abbrev sin_bytes : List ℕ
-  sin_bytes = le_all 4 (map bits32 s.phase_sums.sin) ++ breathing_bytes
+  sin_bytes = le_all 4 (map bits32 s.phase.sums.sin) ++ breathing_bytes
 
   abbrev cos_bytes : List ℕ
-  cos_bytes = le_all 4 (map bits32 s.phase_sums.cos) ++ sin_bytes
+  cos_bytes = le_all 4 (map bits32 s.phase.sums.cos) ++ sin_bytes
 
   abbrev sumsq_bytes : List ℕ
-  sumsq_bytes = le_all 8 s.presence_sums.sumsq ++ cos_bytes
+  sumsq_bytes = le_all 8 s.presence.sums.sumsq ++ cos_bytes
 
   abbrev sum_bytes : List ℕ
-  sum_bytes = le_all 4 s.presence_sums.sum ++ sumsq_bytes
+  sum_bytes = le_all 4 s.presence.sums.sum ++ sumsq_bytes
 
   abbrev fall_on : List ℕ
   fall_on = fall_bytes s.fall ++ sum_bytes
@@ -96,39 +96,39 @@ module _ (m rest : List ℕ) (s : RoomState) (room : header_len ≤ length m) (s
   baseline_on = baseline_bytes s.baseline ++ fall_on
 
   abbrev heart_on : List ℕ
-  heart_on = progress_bytes s.heart ++ baseline_on
+  heart_on = progress_bytes s.heart.progress ++ baseline_on
 
   abbrev breathing_on : List ℕ
-  breathing_on = progress_bytes s.breathing ++ heart_on
+  breathing_on = progress_bytes s.breathing.progress ++ heart_on
 
   abbrev phase_on : List ℕ
-  phase_on = detector_bytes s.phase ++ breathing_on
+  phase_on = detector_bytes s.phase.state ++ breathing_on
 
   abbrev presence_on : List ℕ
-  presence_on = detector_bytes s.presence ++ phase_on
+  presence_on = detector_bytes s.presence.state ++ phase_on
 
   at_tag : drop settings_len m ≡ s.tag ∷ presence_on
   unfolding state_bytes
   at_tag =
       stands
-      ∙ append_assoc (small_bytes s) (column_bytes s.presence_sums s.phase_sums s.breathing_acc s.heart_acc) rest
+      ∙ append_assoc (small_bytes s) (column_bytes s.presence.sums s.phase.sums s.breathing.acc s.heart.acc) rest
       ∙ ap (λ (l : List ℕ). small_bytes s ++ l)
-      (flat (le_all 4 s.presence_sums.sum) (le_all 8 s.presence_sums.sumsq) (le_all 4 (map bits32 s.phase_sums.cos)) (le_all 4 (map bits32 s.phase_sums.sin)) (le_all 4 s.breathing_acc) (le_all 4 s.heart_acc) rest)
+      (flat (le_all 4 s.presence.sums.sum) (le_all 8 s.presence.sums.sumsq) (le_all 4 (map bits32 s.phase.sums.cos)) (le_all 4 (map bits32 s.phase.sums.sin)) (le_all 4 s.breathing.acc) (le_all 4 s.heart.acc) rest)
 
   at-presence : drop presence_at m ≡ presence_on
   at-presence = behind tag_at 1 m (s.tag ∷ []) presence_on refl at_tag
 
   at-phase : drop phase_at m ≡ phase_on
-  at-phase = behind presence_at detector_len m (detector_bytes s.presence) phase_on refl at-presence
+  at-phase = behind presence_at detector_len m (detector_bytes s.presence.state) phase_on refl at-presence
 
   at-breathing : drop breathing_at m ≡ breathing_on
-  at-breathing = behind phase_at detector_len m (detector_bytes s.phase) breathing_on refl at-phase
+  at-breathing = behind phase_at detector_len m (detector_bytes s.phase.state) breathing_on refl at-phase
 
   at-heart : drop heart_at m ≡ heart_on
-  at-heart = behind breathing_at progress_len m (progress_bytes s.breathing) heart_on refl at-breathing
+  at-heart = behind breathing_at progress_len m (progress_bytes s.breathing.progress) heart_on refl at-breathing
 
   at-baseline : drop baseline_at m ≡ baseline_on
-  at-baseline = behind heart_at progress_len m (progress_bytes s.heart) baseline_on refl at-heart
+  at-baseline = behind heart_at progress_len m (progress_bytes s.heart.progress) baseline_on refl at-heart
 
   at-fall : drop fall_at m ≡ fall_on
   at-fall = behind baseline_at baseline_len m (baseline_bytes s.baseline) fall_on refl at-baseline
@@ -137,46 +137,42 @@ module _ (m rest : List ℕ) (s : RoomState) (room : header_len ≤ length m) (s
   at_sum = behind fall_at fall_len m (fall_bytes s.fall) sum_bytes refl at-fall
 
   at-sumsq : drop sumsq_at m ≡ sumsq_bytes
-  at-sumsq = behind sum_at (4 * columns) m (le_all 4 s.presence_sums.sum) sumsq_bytes (words_long 4 columns s.presence_sums.sum full.sum) at_sum
+  at-sumsq = behind sum_at (4 * columns) m (le_all 4 s.presence.sums.sum) sumsq_bytes (words_long 4 columns s.presence.sums.sum full.sum) at_sum
 
   at-cos : drop cos_at m ≡ cos_bytes
-  at-cos = behind sumsq_at (8 * columns) m (le_all 8 s.presence_sums.sumsq) cos_bytes (words_long 8 columns s.presence_sums.sumsq full.sumsq) at-sumsq
+  at-cos = behind sumsq_at (8 * columns) m (le_all 8 s.presence.sums.sumsq) cos_bytes (words_long 8 columns s.presence.sums.sumsq full.sumsq) at-sumsq
 
   at-sin : drop sin_at m ≡ sin_bytes
-  at-sin = behind cos_at (4 * columns) m (le_all 4 (map bits32 s.phase_sums.cos)) sin_bytes (bits-long columns s.phase_sums.cos full.cos) at-cos
+  at-sin = behind cos_at (4 * columns) m (le_all 4 (map bits32 s.phase.sums.cos)) sin_bytes (bits-long columns s.phase.sums.cos full.cos) at-cos
 
   at-breathing-acc : drop breathing_acc_at m ≡ breathing_bytes
-  at-breathing-acc = behind sin_at (4 * columns) m (le_all 4 (map bits32 s.phase_sums.sin)) breathing_bytes (bits-long columns s.phase_sums.sin full.sin) at-sin
+  at-breathing-acc = behind sin_at (4 * columns) m (le_all 4 (map bits32 s.phase.sums.sin)) breathing_bytes (bits-long columns s.phase.sums.sin full.sin) at-sin
 
   at-heart-acc : drop heart_acc_at m ≡ heart_bytes
-  at-heart-acc = behind breathing_acc_at (4 * columns) m (le_all 4 s.breathing_acc) heart_bytes (words_long 4 columns s.breathing_acc full.breathing) at-breathing-acc
+  at-heart-acc = behind breathing_acc_at (4 * columns) m (le_all 4 s.breathing.acc) heart_bytes (words_long 4 columns s.breathing.acc full.breathing) at-breathing-acc
 
   pub load_stored : Small s → Ranged s → state_at m ≡ s
   unfolding state_at
   load_stored n r =
       let tag : get_or m tag_at 0 ≡ s.tag = sym (get_or-drop settings_len m 0 0) ∙ ap (λ (l : List ℕ). get_or l 0 0) at_tag in
-      let presence : detector_in m presence_at ≡ s.presence = here detector_in m presence_on presence_at s.presence (omega (arith, room)) at-presence (λ q. detector-back q phase_on s.presence n.presence-count n.presence-filled n.presence-next r.presence-wander r.presence-motion) in
-      let phase : detector_in m phase_at ≡ s.phase = here detector_in m phase_on phase_at s.phase (omega (arith, room)) at-phase (λ q. detector-back q breathing_on s.phase n.phase-count n.phase-filled n.phase-next r.phase-wander r.phase-motion) in
-      let breathing : progress_in m breathing_at ≡ s.breathing = here progress_in m breathing_on breathing_at s.breathing (omega (arith, room)) at-breathing (λ q. progress-back q heart_on s.breathing n.breathing-count n.breathing-filled n.breathing-next n.breathing-acc n.breathing-since) in
-      let heart : progress_in m heart_at ≡ s.heart = here progress_in m heart_on heart_at s.heart (omega (arith, room)) at-heart (λ q. progress-back q baseline_on s.heart n.heart-count n.heart-filled n.heart-next n.heart-acc n.heart-since) in
+      let presence : detector_in m presence_at ≡ s.presence.state = here detector_in m presence_on presence_at s.presence.state (omega (arith, room)) at-presence (λ q. detector-back q phase_on s.presence.state n.presence-count n.presence-filled n.presence-next r.presence-wander r.presence-motion) in
+      let phase : detector_in m phase_at ≡ s.phase.state = here detector_in m phase_on phase_at s.phase.state (omega (arith, room)) at-phase (λ q. detector-back q breathing_on s.phase.state n.phase-count n.phase-filled n.phase-next r.phase-wander r.phase-motion) in
+      let breathing : progress_in m breathing_at ≡ s.breathing.progress = here progress_in m breathing_on breathing_at s.breathing.progress (omega (arith, room)) at-breathing (λ q. progress-back q heart_on s.breathing.progress n.breathing-count n.breathing-filled n.breathing-next n.breathing-acc n.breathing-since) in
+      let heart : progress_in m heart_at ≡ s.heart.progress = here progress_in m heart_on heart_at s.heart.progress (omega (arith, room)) at-heart (λ q. progress-back q baseline_on s.heart.progress n.heart-count n.heart-filled n.heart-next n.heart-acc n.heart-since) in
       let baseline : baseline_in m baseline_at ≡ s.baseline = here baseline_in m baseline_on baseline_at s.baseline (omega (arith, room)) at-baseline (λ q. baseline-back q fall_on s.baseline r.baseline-sum n.baseline-frames) in
       let fall : fall_in m fall_at ≡ s.fall = here fall_in m fall_on fall_at s.fall (omega (arith, room)) at-fall (λ q. fall-back q sum_bytes s.fall r.peak r.a r.b) in
-      let sum : words_in 4 columns (drop sum_at m) ≡ s.presence_sums.sum = words-here 4 columns sum_at m s.presence_sums.sum sumsq_bytes full.sum r.sum at_sum in
-      let sumsq : words_in 8 columns (drop sumsq_at m) ≡ s.presence_sums.sumsq = words-here 8 columns sumsq_at m s.presence_sums.sumsq cos_bytes full.sumsq r.sumsq at-sumsq in
-      let cos : map signed32 (words_in 4 columns (drop cos_at m)) ≡ s.phase_sums.cos = signed-here columns cos_at m s.phase_sums.cos sin_bytes full.cos r.cos at-cos in
-      let sin : map signed32 (words_in 4 columns (drop sin_at m)) ≡ s.phase_sums.sin = signed-here columns sin_at m s.phase_sums.sin breathing_bytes full.sin r.sin at-sin in
-      let breathing-acc : words_in 4 columns (drop breathing_acc_at m) ≡ s.breathing_acc = words-here 4 columns breathing_acc_at m s.breathing_acc heart_bytes full.breathing r.breathing at-breathing-acc in
-      let heart-acc : words_in 4 columns (drop heart_acc_at m) ≡ s.heart_acc = words-here 4 columns heart_acc_at m s.heart_acc rest full.heart r.heart at-heart-acc in
+      let sum : words_in 4 columns (drop sum_at m) ≡ s.presence.sums.sum = words-here 4 columns sum_at m s.presence.sums.sum sumsq_bytes full.sum r.sum at_sum in
+      let sumsq : words_in 8 columns (drop sumsq_at m) ≡ s.presence.sums.sumsq = words-here 8 columns sumsq_at m s.presence.sums.sumsq cos_bytes full.sumsq r.sumsq at-sumsq in
+      let cos : map signed32 (words_in 4 columns (drop cos_at m)) ≡ s.phase.sums.cos = signed-here columns cos_at m s.phase.sums.cos sin_bytes full.cos r.cos at-cos in
+      let sin : map signed32 (words_in 4 columns (drop sin_at m)) ≡ s.phase.sums.sin = signed-here columns sin_at m s.phase.sums.sin breathing_bytes full.sin r.sin at-sin in
+      let breathing-acc : words_in 4 columns (drop breathing_acc_at m) ≡ s.breathing.acc = words-here 4 columns breathing_acc_at m s.breathing.acc heart_bytes full.breathing r.breathing at-breathing-acc in
+      let heart-acc : words_in 4 columns (drop heart_acc_at m) ≡ s.heart.acc = words-here 4 columns heart_acc_at m s.heart.acc rest full.heart r.heart at-heart-acc in
       λ i. record {
         tag = tag i;
-        presence = presence i;
-        presence_sums = record { sum = sum i; sumsq = sumsq i };
-        phase = phase i;
-        phase_sums = record { cos = cos i; sin = sin i };
-        breathing = breathing i;
-        breathing_acc = breathing-acc i;
-        heart = heart i;
-        heart_acc = heart-acc i;
+        presence = record { state = presence i; sums = record { sum = sum i; sumsq = sumsq i } };
+        phase = record { state = phase i; sums = record { cos = cos i; sin = sin i } };
+        breathing = record { progress = breathing i; acc = breathing-acc i };
+        heart = record { progress = heart i; acc = heart-acc i };
         baseline = baseline i;
         fall = fall i;
       }
@@ -216,7 +212,7 @@ module _ (m o : List ℕ) (s : RoomState) (room : header_len ≤ length m) (same
 -- ---- storing what was loaded gives the same bytes
 module _ (m : List ℕ) (room : header_len ≤ length m) (bytes : (i : ℕ) → get_or m i 0 < 256) where
   columns-same : (rest : List ℕ) → rest ≡ drop header_len m
-      → column_bytes (state_at m).presence_sums (state_at m).phase_sums (state_at m).breathing_acc (state_at m).heart_acc ++ rest ≡ drop sum_at m
+      → column_bytes (state_at m).presence.sums (state_at m).phase.sums (state_at m).breathing.acc (state_at m).heart.acc ++ rest ≡ drop sum_at m
   unfolding state_at
   columns-same rest d =
       let e₆ = words_same m bytes 4 columns heart_acc_at rest (omega (arith, room)) d in
@@ -245,7 +241,7 @@ module _ (m : List ℕ) (room : header_len ≤ length m) (bytes : (i : ℕ) → 
   unfolding state_bytes
   stored_same f =
       let s : RoomState = state_at m in
-      let c : List ℕ = column_bytes s.presence_sums s.phase_sums s.breathing_acc s.heart_acc in
+      let c : List ℕ = column_bytes s.presence.sums s.phase.sums s.breathing.acc s.heart.acc in
       let e : (small_bytes s ++ c) ++ drop header_len m ≡ drop settings_len m = append_assoc (small_bytes s) c (drop header_len m) ∙ small_same (c ++ drop header_len m) f (columns-same (drop header_len m) refl) in
       ap (λ (l : List ℕ). take settings_len m ++ l) e ∙ take-append-drop settings_len m
 
@@ -259,6 +255,6 @@ unfolding flags state_bytes
 flags-stored p rest s l =
     let m : List ℕ = p ++ (state_bytes s ++ rest) in
     let d : drop settings_len m ≡ state_bytes s ++ rest = drop_at p (state_bytes s ++ rest) settings_len l in
-    let e₁ : get_or m (presence_at + present_at) 0 ≡ flag s.presence.present = sym (get_or-drop settings_len m 10 0) ∙ ap (λ (x : List ℕ). get_or x 10 0) d in
-    let e₂ : get_or m (phase_at + present_at) 0 ≡ flag s.phase.present = sym (get_or-drop settings_len m 28 0) ∙ ap (λ (x : List ℕ). get_or x 28 0) d in
-    ap (λ (x : ℕ). leb x 1 && leb (get_or m (phase_at + present_at) 0) 1) e₁ ∙ ap (λ (x : ℕ). leb (flag s.presence.present) 1 && leb x 1) e₂ ∙ rw (flag_small s.presence.present, flag_small s.phase.present)
+    let e₁ : get_or m (presence_at + present_at) 0 ≡ flag s.presence.state.present = sym (get_or-drop settings_len m 10 0) ∙ ap (λ (x : List ℕ). get_or x 10 0) d in
+    let e₂ : get_or m (phase_at + present_at) 0 ≡ flag s.phase.state.present = sym (get_or-drop settings_len m 28 0) ∙ ap (λ (x : List ℕ). get_or x 28 0) d in
+    ap (λ (x : ℕ). leb x 1 && leb (get_or m (phase_at + present_at) 0) 1) e₁ ∙ ap (λ (x : ℕ). leb (flag s.presence.state.present) 1 && leb x 1) e₂ ∙ rw (flag_small s.presence.state.present, flag_small s.phase.state.present)

@@ -64,14 +64,18 @@ unfoldable pub state_at : List ℕ → RoomState
 state_at m =
     record {
       tag = get_or m tag_at 0;
-      presence = detector_in m presence_at;
-      presence_sums = record { sum = words_in 4 columns (drop sum_at m); sumsq = words_in 8 columns (drop sumsq_at m) };
-      phase = detector_in m phase_at;
-      phase_sums = record { cos = map signed32 (words_in 4 columns (drop cos_at m)); sin = map signed32 (words_in 4 columns (drop sin_at m)) };
-      breathing = progress_in m breathing_at;
-      breathing_acc = words_in 4 columns (drop breathing_acc_at m);
-      heart = progress_in m heart_at;
-      heart_acc = words_in 4 columns (drop heart_acc_at m);
+      presence =
+          record {
+            state = detector_in m presence_at;
+            sums = record { sum = words_in 4 columns (drop sum_at m); sumsq = words_in 8 columns (drop sumsq_at m) };
+          };
+      phase =
+          record {
+            state = detector_in m phase_at;
+            sums = record { cos = map signed32 (words_in 4 columns (drop cos_at m)); sin = map signed32 (words_in 4 columns (drop sin_at m)) };
+          };
+      breathing = record { progress = progress_in m breathing_at; acc = words_in 4 columns (drop breathing_acc_at m) };
+      heart = record { progress = progress_in m heart_at; acc = words_in 4 columns (drop heart_acc_at m) };
       baseline = baseline_in m baseline_at;
       fall = fall_in m fall_at;
     }
@@ -79,7 +83,7 @@ state_at m =
 -- the small states as bytes
 abbrev pub small_bytes : RoomState → List ℕ
 small_bytes s =
-    s.tag ∷ detector_bytes s.presence ++ (detector_bytes s.phase ++ (progress_bytes s.breathing ++ (progress_bytes s.heart
+    s.tag ∷ detector_bytes s.presence.state ++ (detector_bytes s.phase.state ++ (progress_bytes s.breathing.progress ++ (progress_bytes s.heart.progress
     ++ (baseline_bytes s.baseline ++ fall_bytes s.fall))))
 
 -- the numbers of the columns as bytes
@@ -89,26 +93,26 @@ column_bytes p q b h =
 
 -- the header behind the settings
 unfoldable pub state_bytes : RoomState → List ℕ
-state_bytes s = small_bytes s ++ column_bytes s.presence_sums s.phase_sums s.breathing_acc s.heart_acc
+state_bytes s = small_bytes s ++ column_bytes s.presence.sums s.phase.sums s.breathing.acc s.heart.acc
 
 -- the numbers whose field in memory is narrower than their type fit it
 pub record Small (s : RoomState) : Type 0 where
-  pub presence-count : s.presence.count < 256
-  pub presence-filled : s.presence.filled < 65536
-  pub presence-next : s.presence.next < 65536
-  pub phase-count : s.phase.count < 256
-  pub phase-filled : s.phase.filled < 65536
-  pub phase-next : s.phase.next < 65536
-  pub breathing-count : s.breathing.count < 256
-  pub breathing-filled : s.breathing.filled < 65536
-  pub breathing-next : s.breathing.next < 65536
-  pub breathing-acc : s.breathing.acc_n < 65536
-  pub breathing-since : s.breathing.since_update < 65536
-  pub heart-count : s.heart.count < 256
-  pub heart-filled : s.heart.filled < 65536
-  pub heart-next : s.heart.next < 65536
-  pub heart-acc : s.heart.acc_n < 65536
-  pub heart-since : s.heart.since_update < 65536
+  pub presence-count : s.presence.state.count < 256
+  pub presence-filled : s.presence.state.filled < 65536
+  pub presence-next : s.presence.state.next < 65536
+  pub phase-count : s.phase.state.count < 256
+  pub phase-filled : s.phase.state.filled < 65536
+  pub phase-next : s.phase.state.next < 65536
+  pub breathing-count : s.breathing.progress.count < 256
+  pub breathing-filled : s.breathing.progress.filled < 65536
+  pub breathing-next : s.breathing.progress.next < 65536
+  pub breathing-acc : s.breathing.progress.acc_n < 65536
+  pub breathing-since : s.breathing.progress.since_update < 65536
+  pub heart-count : s.heart.progress.count < 256
+  pub heart-filled : s.heart.progress.filled < 65536
+  pub heart-next : s.heart.progress.next < 65536
+  pub heart-acc : s.heart.progress.acc_n < 65536
+  pub heart-since : s.heart.progress.since_update < 65536
   pub baseline-frames : s.baseline.frames < 65536
 
 -- the bytes of both `present` are 0 or 1: only then does storing what was loaded give the same bytes

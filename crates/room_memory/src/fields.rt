@@ -1,24 +1,12 @@
 // The small states in memory, each at a place of its own. The caller has tested the places.
 ghost use Rattle.std.specs.Prelude.{◌≡◌, [], ◌∷◌, ◌+◌, ◌≤◌, length};
-ghost use Rattle.room_memory.specs.Fields.{flag, detector_len, detector_in, detector_bytes, progress_len, progress_in, progress_bytes, baseline_len, baseline_in, baseline_bytes, fall_len, fall_in, fall_bytes, pasted_at};
+ghost use Rattle.room_memory.specs.Fields.{detector_len, detector_in, detector_bytes, progress_len, progress_in, progress_bytes, baseline_len, baseline_in, baseline_bytes, fall_len, fall_in, fall_bytes, pasted_at};
 
 use detector::State;
 use estimator::Progress;
 use fall_words::Words;
 use fingerprint::Baseline;
 use num::steps::{put, u16_at, u16_bytes, u32_at, u32_bytes, u64_at, u64_bytes};
-
-fn wide(b: u8) -> usize
-    ensures { result ≡ b }
-{
-    b as usize
-}
-
-fn flag_byte(b: bool) -> u8
-    ensures { result ≡ flag b }
-{
-    if b { 1 } else { 0 }
-}
 
 pub(crate) fn put_byte(m: &mut [u8], at: usize, b: u8)
     requires { at + 1 ≤ length m.old }
@@ -34,9 +22,9 @@ pub(crate) fn detector_in(m: &[u8], at: usize) -> State
     ensures { result ≡ detector_in m.now at }
 {
     State {
-        count: wide(m[at]),
-        filled: u16_at(m, at + 1) as usize,
-        next: u16_at(m, at + 3) as usize,
+        count: usize::from(m[at]),
+        filled: usize::from(u16_at(m, at + 1)),
+        next: usize::from(u16_at(m, at + 3)),
         wander: u32_at(m, at + 5),
         present: m[at + crate::PRESENT_AT] == 1,
         last_motion: u64_at(m, at + 10),
@@ -58,7 +46,7 @@ fn detector_bytes(s: State) -> [u8; crate::DETECTOR_LEN]
         w[1],
         w[2],
         w[3],
-        flag_byte(s.present),
+        u8::from(s.present),
         t[0],
         t[1],
         t[2],
@@ -85,11 +73,11 @@ pub(crate) fn progress_in(m: &[u8], at: usize) -> Progress
     ensures { result ≡ progress_in m.now at }
 {
     Progress {
-        count: wide(m[at]),
-        filled: u16_at(m, at + 1) as usize,
-        next: u16_at(m, at + 3) as usize,
-        acc_n: u16_at(m, at + 5) as u32,
-        since_update: u16_at(m, at + 7) as u32,
+        count: usize::from(m[at]),
+        filled: usize::from(u16_at(m, at + 1)),
+        next: usize::from(u16_at(m, at + 3)),
+        acc_n: u32::from(u16_at(m, at + 5)),
+        since_update: u32::from(u16_at(m, at + 7)),
     }
 }
 
@@ -125,7 +113,7 @@ pub(crate) fn baseline_in(m: &[u8], at: usize) -> Baseline
 {
     Baseline {
         sum: u64_at(m, at),
-        frames: u16_at(m, at + 8) as u32,
+        frames: u32::from(u16_at(m, at + 8)),
     }
 }
 

@@ -1,10 +1,10 @@
 // The room unit's memory: what stands at which byte (docs/LAYOUT.md).
 #![tactic(auto)]
 
-use detector::State;
-use estimator::Progress;
+use estimator::VitalsEstimator;
 use fall_words::Words;
 use fingerprint::Baseline;
+use sliding::Held;
 use window::COLUMNS;
 
 mod arrays;
@@ -58,14 +58,10 @@ pub(crate) const PRESENT_AT: usize = 9;
 #[derive(Clone, Copy)]
 pub struct RoomState {
     pub tag: u8,
-    pub presence: State,
-    pub presence_sums: presence::Sums,
-    pub phase: State,
-    pub phase_sums: phase_detector::Sums,
-    pub breathing: Progress,
-    pub breathing_acc: [u32; COLUMNS],
-    pub heart: Progress,
-    pub heart_acc: [u32; COLUMNS],
+    pub presence: Held<presence::Sums>,
+    pub phase: Held<phase_detector::Sums>,
+    pub breathing: VitalsEstimator,
+    pub heart: VitalsEstimator,
     pub baseline: Baseline,
     pub fall: Words,
 }

@@ -7,3 +7,4 @@ pub mod Order
 pub mod Demand
 pub mod Runs
 pub mod Bench
+pub mod Checked

@@ -1,11 +1,13 @@
 // The answer to one record, and its bytes (docs/LAYOUT.md).
 ghost use Rattle.std.specs.Prelude.{◌≡◌};
+ghost use Rattle.refusal.specs.Refusal.{number};
 ghost use Rattle.unit.specs.Sensing.{bytes_of};
 ghost use Rattle.room_sensing.specs.Sensing.{room};
-ghost use Rattle.room_sensing.specs.Answers.{flag, rate_bytes, refused_bytes, watched_bytes, learnt_bytes, reset_bytes, answer_of};
+ghost use Rattle.room_sensing.specs.Answers.{rate_bytes, refused_bytes, watched_bytes, learnt_bytes, reset_bytes, answer_of};
 
 use detector::Verdict;
 use num::steps::{u16_bytes, u32_bytes, u64_bytes};
+use refusal::Refusal;
 
 // How many bytes an answer is.
 pub const ANSWER_LEN: usize = 24;
@@ -32,16 +34,10 @@ pub struct Watched {
 
 #[derive(Clone, Copy)]
 pub enum Answer {
-    Refused(u8),
+    Refused(Refusal),
     Watch(Watched),
     Calibrate { frames: u32, mean: u32 },
     Reset,
-}
-
-fn flag_byte(b: bool) -> u8
-    ensures { result ≡ flag b }
-{
-    if b { 1 } else { 0 }
 }
 
 // 0 not due, 1 not accepted, 2 accepted; then the rate, 0 unless accepted.
@@ -52,78 +48,57 @@ fn rate_bytes(rate: Rate) -> [u8; 3]
         Rate::NotDue => [0, 0, 0],
         Rate::NotAccepted => [1, 0, 0],
         Rate::Accepted(bpm) => {
-            let b = u16_bytes(bpm);
-            [2, b[0], b[1]]
+            let [low, high] = u16_bytes(bpm);
+            [2, low, high]
         }
     }
 }
 
-fn refused_bytes(number: u8, at: usize) -> [u8; ANSWER_LEN]
-    ensures { result ≡ refused_bytes number at }
+#[tactic(auto, unfolding(crate::specs::Answers::refused_bytes))]
+fn refused_bytes(refusal: Refusal, at: usize) -> [u8; ANSWER_LEN]
+    ensures { result ≡ refused_bytes (number refusal) at }
 {
-    let p = u64_bytes(at as u64);
-    [
-        0, number, p[0], p[1], p[2], p[3], p[4], p[5], p[6], p[7], 0, 0, 0, 0, 0, 0, 0, 0, 0, 0, 0,
-        0, 0, 0,
-    ]
+    let mut out = [0; ANSWER_LEN];
+    out[1] = refusal.number();
+    out[2..10].copy_from_slice(&u64_bytes(at as u64));
+    out
 }
 
+#[tactic(auto, unfolding(crate::specs::Answers::watched_bytes))]
 fn watched_bytes(w: Watched) -> [u8; ANSWER_LEN]
     ensures { result ≡ watched_bytes w }
 {
-    let verdict = w.verdict;
-    let p = u16_bytes(w.permille);
-    let d = u16_bytes(w.distance);
-    let q = u32_bytes(w.ppm);
-    let breathing = w.breathing;
-    let heart = w.heart;
-    let b = rate_bytes(breathing);
-    let h = rate_bytes(heart);
-    [
-        1,
-        verdict.tag(),
-        verdict.motion(),
-        flag_byte(w.fall),
-        p[0],
-        p[1],
-        d[0],
-        d[1],
-        q[0],
-        q[1],
-        q[2],
-        q[3],
-        b[0],
-        b[1],
-        b[2],
-        h[0],
-        h[1],
-        h[2],
-        0,
-        0,
-        0,
-        0,
-        0,
-        0,
-    ]
+    let mut out = [0; ANSWER_LEN];
+    out[0] = 1;
+    out[1] = w.verdict.tag();
+    out[2] = w.verdict.motion();
+    out[3] = u8::from(w.fall);
+    out[4..6].copy_from_slice(&u16_bytes(w.permille));
+    out[6..8].copy_from_slice(&u16_bytes(w.distance));
+    out[8..12].copy_from_slice(&u32_bytes(w.ppm));
+    out[12..15].copy_from_slice(&rate_bytes(w.breathing));
+    out[15..18].copy_from_slice(&rate_bytes(w.heart));
+    out
 }
 
+#[tactic(auto, unfolding(crate::specs::Answers::learnt_bytes))]
 fn learnt_bytes(frames: u32, mean: u32) -> [u8; ANSWER_LEN]
     ensures { result ≡ learnt_bytes frames mean }
 {
-    let f = u32_bytes(frames);
-    let m = u32_bytes(mean);
-    [
-        2, f[0], f[1], f[2], f[3], m[0], m[1], m[2], m[3], 0, 0, 0, 0, 0, 0, 0, 0, 0, 0, 0, 0, 0,
-        0, 0,
-    ]
+    let mut out = [0; ANSWER_LEN];
+    out[0] = 2;
+    out[1..5].copy_from_slice(&u32_bytes(frames));
+    out[5..9].copy_from_slice(&u32_bytes(mean));
+    out
 }
 
+#[tactic(auto, unfolding(crate::specs::Answers::reset_bytes))]
 fn reset_bytes() -> [u8; ANSWER_LEN]
     ensures { result ≡ reset_bytes }
 {
-    [
-        3, 0, 0, 0, 0, 0, 0, 0, 0, 0, 0, 0, 0, 0, 0, 0, 0, 0, 0, 0, 0, 0, 0, 0,
-    ]
+    let mut out = [0; ANSWER_LEN];
+    out[0] = 3;
+    out
 }
 
 // The bytes of an answer to the record that stands at byte `at` of its run.
@@ -131,7 +106,7 @@ pub fn encode(at: usize, answer: Answer) -> [u8; ANSWER_LEN]
     ensures { result ≡ bytes_of room at (answer_of answer) }
 {
     match answer {
-        Answer::Refused(number) => refused_bytes(number, at),
+        Answer::Refused(refusal) => refused_bytes(refusal, at),
         Answer::Watch(w) => watched_bytes(w),
         Answer::Calibrate { frames, mean } => learnt_bytes(frames, mean),
         Answer::Reset => reset_bytes(),

@@ -1,10 +1,11 @@
 // The settings that a unit is begun with, read from their bytes (docs/LAYOUT.md).
 ghost use Rattle.std.specs.Prelude.{◌≡◌, ◌+◌, ◌≤◌, length};
 ghost use Rattle.room_memory.specs.Header.{settings_len};
-ghost use Rattle.room_sensing.specs.Settings.{presence_at, phase_at, rhythm_at, fall_at, settings_of, in_range, legal};
+ghost use Rattle.room_sensing.specs.Settings.{presence_at, phase_at, rhythm_at, fall_at, settings_of, in_range, settings_read};
 
 use fall::FallConfig;
 use num::steps::{u16_at, u32_at, u64_at};
+use refusal::Refusal;
 use room_memory::SETTINGS_LEN;
 use vitals::band::Band;
 use vitals::config::VitalsConfig;
@@ -103,29 +104,35 @@ pub(crate) fn settings_of(bytes: &[u8]) -> Settings
     }
 }
 
-// Whether every named range is kept.
-fn is_in_range(settings: Settings) -> bool
-    ensures { result ≡ in_range settings }
-{
-    let w = settings.w as usize;
-    if detector::steps::is_window(w) {
-        let n = settings.n as usize;
-        let breathing = settings.breathing;
-        if estimator::steps::is_legal(breathing, n) {
-            let heart = settings.heart;
-            return estimator::steps::is_legal(heart, n);
-        }
-        return false;
+impl Settings {
+    // Whether every named range is kept.
+    #[tactic(auto, unfolding(crate::specs::Settings::in_range))]
+    fn is_in_range(&self) -> bool
+        ensures { result ≡ in_range self.now }
+    {
+        let n = usize::from(self.n);
+        detector::steps::is_window(usize::from(self.w))
+            && estimator::steps::is_legal(self.breathing, n)
+            && estimator::steps::is_legal(self.heart, n)
     }
-    false
 }
 
-// Whether these bytes are settings with every named range kept; if not, the refusal is 1.
-pub fn is_legal(bytes: &[u8]) -> bool
-    ensures { result ≡ legal bytes.now }
-{
-    if bytes.len() != SETTINGS_LEN {
-        return false;
+// The settings that these bytes hold, with every named range kept; or refusal 1.
+impl TryFrom<&[u8]> for Settings {
+    type Error = Refusal;
+
+    ghost try_from_gives = { λ bytes r. r ≡ settings_read bytes.now };
+
+    #[tactic(auto, unfolding(crate::specs::Settings::legal))]
+    fn try_from(bytes: &[u8]) -> Result<Settings, Refusal> {
+        if bytes.len() != SETTINGS_LEN {
+            return Err(Refusal::Settings);
+        }
+        let settings = settings_of(bytes);
+        if settings.is_in_range() {
+            Ok(settings)
+        } else {
+            Err(Refusal::Settings)
+        }
     }
-    is_in_range(settings_of(bytes))
 }

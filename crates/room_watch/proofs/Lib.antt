@@ -1,4 +1,3 @@
 pub mod Rings
 pub mod Machine
-pub mod Both
 pub mod Feeding

@@ -1,7 +1,6 @@
 // A watched sample, fed to every detector on its ring (document 01, "The room unit").
 #![tactic(auto)]
 
-mod detectors;
 mod falls;
 mod pushes;
 mod sample;

@@ -1,127 +1,56 @@
-// A frame pushed into one ring of the rows.
+// A frame pushed into one ring: what a detector holds is changed in place, and what it says is the answer.
 ghost use Rattle.std.specs.Prelude.{◌≡◌, true, ◌≤◌, length};
 ghost use Rattle.window.specs.Window.{columns};
-ghost use Rattle.detector.specs.Detector.{Valid};
-ghost use Rattle.presence.specs.Presence.{presence_kind};
-ghost use Rattle.phase_detector.specs.Phase.{phase_kind};
-ghost use Rattle.estimator.specs.State.{legal, in_range};
-ghost use Rattle.room_state.specs.Rings.{rings_of, rows_length};
-ghost use Rattle.room_watch.specs.Watching.{InPresence, InPhase, InBreathing, InHeart};
+ghost use Rattle.detector.specs.Detector.{Valid, Pushes};
+ghost use Rattle.estimator.specs.State.{legal, in_range, ring_length, Took};
 
-use detector::State;
-use estimator::Progress;
-use room_sensing::memory::ring_len;
-use room_sensing::settings::Settings;
-use window::COLUMNS;
+use detector::{Limits, Verdict};
+use estimator::{Vitals, VitalsEstimator};
+use sliding::{ColumnSums, Frame, Held};
+use vitals::config::VitalsConfig;
 
-pub(crate) fn push_presence(
-    rows: &mut [u8],
-    settings: Settings,
-    state: State,
-    sums: presence::Sums,
-    amplitude: [u16; COLUMNS],
-    count: usize,
-    time: u64,
-) -> presence::steps::Pushed
-    requires valid { Valid presence_kind settings.w columns state (rings_of settings rows.old).presence sums.sum sums.sumsq }
-    requires rows_len { (length rows.old ≡ rows_length settings) × (count ≤ columns) }
-    ensures { InPresence settings state rows.old amplitude count time result rows.new }
+// Presence or phase.
+pub(crate) fn push_window<S: ColumnSums>(
+    ring: &mut [u8],
+    w: u16,
+    limits: Limits,
+    held: &mut Held<S>,
+    frame: &Frame<S::Entry>,
+) -> Verdict
+    requires valid { Valid S.kind w columns held.old.state ring.old (S.firsts held.old.sums) (S.seconds held.old.sums) }
+    requires few { frame.now.count ≤ columns }
+    ensures { Pushes S.kind limits w columns held.old.state ring.old (S.entries frame.now.entries) frame.now.count frame.now.time held.new.state ring.new (S.firsts held.new.sums) (S.seconds held.new.sums) result }
 {
-    let end = ring_len(settings.w);
-    let config = settings.presence;
-    presence::steps::push(
-        &mut rows[0..end],
-        settings.w as usize,
-        config,
-        state,
-        sums,
-        amplitude,
-        count,
-        time,
-    )
+    let pushed = sliding::steps::push(ring, usize::from(w), limits, held.state, held.sums, frame);
+    held.state = pushed.state;
+    held.sums = pushed.sums;
+    pushed.verdict
 }
 
-pub(crate) fn push_phase(
-    rows: &mut [u8],
-    settings: Settings,
-    state: State,
-    sums: phase_detector::Sums,
-    angles: [i16; COLUMNS],
-    count: usize,
-    time: u64,
-) -> phase_detector::steps::Pushed
-    requires valid { Valid phase_kind settings.w columns state (rings_of settings rows.old).phase sums.cos sums.sin }
-    requires rows_len { (length rows.old ≡ rows_length settings) × (count ≤ columns) }
-    ensures { InPhase settings state rows.old angles count time result rows.new }
+// Breathing or heart.
+pub(crate) fn push_rhythm(
+    ring: &mut [u8],
+    n: u16,
+    config: VitalsConfig,
+    estimator: &mut VitalsEstimator,
+    frame: &Frame<u16>,
+) -> Option<Vitals>
+    requires config { legal config n ≡ true }
+    requires ring { length ring.old ≡ ring_length n }
+    requires progress { in_range config n estimator.old.progress estimator.old.acc ≡ true }
+    requires few { frame.now.count ≤ columns }
+    ensures { Took config n frame.now.time estimator.old.progress estimator.old.acc ring.old frame.now.entries frame.now.count (record { progress = estimator.new.progress; answer = result }) estimator.new.acc ring.new }
 {
-    let start = ring_len(settings.w);
-    let end = 2 * start;
-    let config = settings.phase;
-    phase_detector::steps::push(
-        &mut rows[start..end],
-        settings.w as usize,
+    let stepped = estimator::steps::push(
+        ring,
+        &mut estimator.acc,
+        usize::from(n),
         config,
-        state,
-        sums,
-        angles,
-        count,
-        time,
-    )
-}
-
-pub(crate) fn push_breathing(
-    rows: &mut [u8],
-    settings: Settings,
-    acc: &mut [u32; COLUMNS],
-    progress: Progress,
-    amplitude: &[u16],
-    count: usize,
-    time: u64,
-) -> estimator::steps::Stepped
-    requires n_value { (legal settings.breathing settings.n ≡ true) × (in_range settings.breathing settings.n progress acc.old ≡ true) × (length acc.old ≡ columns) }
-    requires rows_len { (length rows.old ≡ rows_length settings) × (count ≤ columns) × (count ≤ length amplitude.now) }
-    ensures { InBreathing settings progress acc.old rows.old amplitude.now count time result acc.new rows.new }
-{
-    let start = 2 * ring_len(settings.w);
-    let end = start + ring_len(settings.n);
-    let config = settings.breathing;
-    estimator::steps::push(
-        &mut rows[start..end],
-        acc,
-        settings.n as usize,
-        config,
-        progress,
-        amplitude,
-        count,
-        time,
-    )
-}
-
-pub(crate) fn push_heart(
-    rows: &mut [u8],
-    settings: Settings,
-    acc: &mut [u32; COLUMNS],
-    progress: Progress,
-    amplitude: &[u16],
-    count: usize,
-    time: u64,
-) -> estimator::steps::Stepped
-    requires n_value { (legal settings.heart settings.n ≡ true) × (in_range settings.heart settings.n progress acc.old ≡ true) × (length acc.old ≡ columns) }
-    requires rows_len { (length rows.old ≡ rows_length settings) × (count ≤ columns) × (count ≤ length amplitude.now) }
-    ensures { InHeart settings progress acc.old rows.old amplitude.now count time result acc.new rows.new }
-{
-    let ring = ring_len(settings.n);
-    let start = 2 * ring_len(settings.w) + ring;
-    let end = start + ring;
-    let config = settings.heart;
-    estimator::steps::push(
-        &mut rows[start..end],
-        acc,
-        settings.n as usize,
-        config,
-        progress,
-        amplitude,
-        count,
-        time,
-    )
+        estimator.progress,
+        &frame.entries,
+        frame.count,
+        frame.time,
+    );
+    estimator.progress = stepped.progress;
+    stepped.answer
 }

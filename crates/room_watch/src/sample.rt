@@ -7,6 +7,7 @@ use csi::Features;
 use csi_stream::Sample;
 use csi_stream::steps::tag_in;
 use phase::Phases;
+use sliding::Frame;
 
 pub(crate) fn features_in(body: &[u8]) -> Features
     requires { (bytes_refusal body.now ≡ 0) × (length body.now ≡ sample_len) }
@@ -21,4 +22,28 @@ pub(crate) fn phases_in(body: &[u8]) -> Phases
     ensures { result ≡ frame_phases (iq_of body.now) (tag_of body.now) }
 {
     phase::steps::phases(Sample::iq(body), tag_in(body))
+}
+
+// The amplitudes as a frame of presence, breathing and heart.
+pub(crate) fn amplitudes_of(features: &Features, time: u64) -> Frame<u16>
+    ensures { result ≡ record { entries = features.now.amplitude; count = features.now.count; time = time } }
+{
+    let entries = features.amplitude;
+    Frame {
+        entries,
+        count: usize::from(features.count),
+        time,
+    }
+}
+
+// The angles as a frame of phase.
+pub(crate) fn angles_of(phases: &Phases, time: u64) -> Frame<i16>
+    ensures { result ≡ record { entries = phases.now.phase; count = phases.now.count; time = time } }
+{
+    let entries = phases.phase;
+    Frame {
+        entries,
+        count: usize::from(phases.count),
+        time,
+    }
 }

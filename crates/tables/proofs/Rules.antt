@@ -15,9 +15,8 @@ use Rattle.num.proofs.Rules.{ascending, near, ascends-by, near_by}
 use Rattle.num.proofs.Table.{each_of}
 use Rattle.phase.specs.Tables.{atan_octant, eighth_turn}
 use Rattle.vectors.specs.Tables.{sin_quarter}
-use Rattle.tables.specs.Tables.{one, fractions, deeper, euler, atan_entry, sine_terms, less, alternating, sine_entry, entry_of, table_of, atan_table, sine_table}
-use Rattle.tables.specs.declared.Table.{Table}
-use Rattle.tables.specs.declared.Table.TheVariants.{Arctangents, Sines}
+use Rattle.tables.specs.Tables.{Table, one, fractions, deeper, euler, atan_entry, sine_terms, less, alternating, sine_entry, entry_of, table_of, atan_table, sine_table}
+use Rattle.tables.specs.Tables.Table.{Arctangents, Sines}
 use Rattle.tables.specs.Rules.{CoarseAreTheConstants, EachFourthIsConstant, tolerance, KeepTheRules, BothKeepTheRules, ByTheRatioAlone}
 
 -- ---- at 256 steps, by computation

@@ -3,8 +3,7 @@ use Rattle.std.specs.Prelude.{◌≡◌, ℕ, suc, ◌*◌, ◌^◌, ◌≤◌, 
 use Rattle.num.specs.Rules.{Ascends, SquaresNear}
 use Rattle.phase.specs.Tables.{atan_octant, eighth_turn}
 use Rattle.vectors.specs.Tables.{sin_quarter}
-use Rattle.tables.specs.Tables.{entry_of, atan_table, sine_table}
-use Rattle.tables.specs.declared.Table.{Table}
+use Rattle.tables.specs.Tables.{Table, entry_of, atan_table, sine_table}
 
 -- at 256 steps: the two constant tables
 abbrev pub CoarseAreTheConstants : Type 0

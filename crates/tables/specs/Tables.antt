@@ -2,8 +2,6 @@
 use Rattle.std.specs.Prelude.{List, [], ◌∷◌, ℕ, zero, suc, ◌+◌, ◌-◌, ◌*◌, ◌/◌, ◌^◌}
 use Rattle.num.specs.Lists.{build}
 use Rattle.num.specs.Nearest.{nearest}
-use Rattle.tables.specs.declared.Table.{Table}
-use Rattle.tables.specs.declared.Table.TheVariants.{Arctangents, Sines}
 
 -- 1 with twenty fractional bits, which the numbers inside an entry's series have
 abbrev pub one : ℕ
@@ -48,6 +46,10 @@ unfoldable pub sine_entry : (n i : ℕ) → ℕ
 sine_entry n i = nearest (alternating (i * i) (n * n) sine_terms * i) (n * one)
 
 -- ---- the tables
+pub data Table : Type 0 where
+  Arctangents : Table
+  Sines : Table
+
 abbrev pub entry_of : Table → (n i : ℕ) → ℕ
 entry_of Arctangents = atan_entry
 entry_of Sines = sine_entry

@@ -3,17 +3,15 @@
 
 ghost use Rattle.std.specs.Prelude.{◌≡◌, ◌+◌, ◌*◌, ◌≤◌, ◌<◌, length, get_or};
 ghost use Rattle.num.specs.Nearest.{nearest};
-ghost use Rattle.tables.specs.Tables.{radian, fractions, deeper, euler, atan_entry, sine_terms, less, alternating, sine_entry, entry_of, table_of, atan_table, sine_table};
+ghost use Rattle.tables.specs.Tables.{radian, fractions, deeper, euler, atan_entry, sine_terms, less, alternating, sine_entry};
 ghost use Rattle.tables.specs.Sizes.{most_steps, most_divisor, most_entry, Place, AtMostHalf, AtMostOne};
 
-// The steps of the two sizes, and their entries.
-const COARSE: usize = 256;
+pub mod steps;
 
-const FINE: usize = 1024;
+// The entries of the tables of 256 and of 1,024 steps.
+pub const COARSE_ENTRIES: usize = 257;
 
-pub const COARSE_ENTRIES: usize = COARSE + 1;
-
-pub const FINE_ENTRIES: usize = FINE + 1;
+pub const FINE_ENTRIES: usize = 1025;
 
 // 1 with twenty fractional bits, which the numbers inside an entry's series have.
 const ONE: u64 = 1048576;
@@ -60,10 +58,8 @@ fn euler(s: u64, q: u64) -> u64
     ensures { (result ≡ euler s q 1 fractions) × (result ≤ 2 * radian) }
 {
     let mut x = RADIAN;
-    let mut k = FRACTIONS;
-    while 0 < k {
+    for k in (1..=FRACTIONS).rev() {
         x = deeper(s, q, k, x);
-        k -= 1;
     }
     x
 }
@@ -75,13 +71,6 @@ fn atan_entry(n: u64, i: u64) -> u16
     let s = i * i;
     let q = s + n * n;
     nearest(euler(s, q) * (i * n), q * ONE)
-}
-
-fn sine_term(k: usize) -> u64
-    requires { k < length sine_terms }
-    ensures { result ≡ get_or sine_terms k 0 }
-{
-    SINE_TERMS[k]
 }
 
 // A bracket of the sine's series: a term, less s / q times x, the bracket inside it.
@@ -98,10 +87,8 @@ fn alternating(s: u64, q: u64) -> u64
     ensures { (result ≡ alternating s q sine_terms) × (result ≤ get_or sine_terms 0 0) }
 {
     let mut x = 0;
-    let mut k = TERMS;
-    while 0 < k {
-        k -= 1;
-        x = less(s, q, sine_term(k), x);
+    for k in (0..TERMS).rev() {
+        x = less(s, q, SINE_TERMS[k], x);
     }
     x
 }
@@ -111,56 +98,4 @@ fn sine_entry(n: u64, i: u64) -> u16
     ensures { result ≡ sine_entry n i }
 {
     nearest(alternating(i * i, n * n) * i, n * ONE)
-}
-
-#[derive(Clone, Copy)]
-enum Table {
-    Arctangents,
-    Sines,
-}
-
-fn entry(table: Table, n: u64, i: u64) -> u16
-    requires { Place n i }
-    ensures { result ≡ entry_of table n i }
-{
-    match table {
-        Table::Arctangents => atan_entry(n, i),
-        Table::Sines => sine_entry(n, i),
-    }
-}
-
-// Fills `out` with a table of n steps, n + 1 entries.
-fn fill(table: Table, n: usize, out: &mut [u16])
-    requires { (1 ≤ n) × (n ≤ most_steps) × (length out.old ≡ n + 1) }
-    ensures { out.new ≡ table_of table n }
-{
-    let mut i = 0;
-    while i <= n {
-        out[i] = entry(table, n as u64, i as u64);
-        i += 1;
-    }
-}
-
-pub fn atan_256(out: &mut [u16; COARSE_ENTRIES])
-    ensures { out.new ≡ atan_table 256 }
-{
-    fill(Table::Arctangents, COARSE, out);
-}
-
-pub fn atan_1024(out: &mut [u16; FINE_ENTRIES])
-    ensures { out.new ≡ atan_table 1024 }
-{
-    fill(Table::Arctangents, FINE, out);
-}
-
-pub fn sine_256(out: &mut [u16; COARSE_ENTRIES])
-    ensures { out.new ≡ sine_table 256 }
-{
-    fill(Table::Sines, COARSE, out);
-}
-
-pub fn sine_1024(out: &mut [u16; FINE_ENTRIES])
-    ensures { out.new ≡ sine_table 1024 }
-{
-    fill(Table::Sines, FINE, out);
 }

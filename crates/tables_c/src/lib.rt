@@ -4,32 +4,33 @@
 ghost use Rattle.std.specs.Prelude.{◌≡◌};
 ghost use Rattle.tables.specs.Tables.{atan_table, sine_table};
 
+use tables::steps::{atan, sine};
 use tables::{COARSE_ENTRIES, FINE_ENTRIES};
 
 #[unsafe(no_mangle)]
 pub extern "C" fn tables_atan_256(out: &mut [u16; COARSE_ENTRIES])
     ensures { out.new ≡ atan_table 256 }
 {
-    tables::atan_256(out);
+    *out = atan::<COARSE_ENTRIES>();
 }
 
 #[unsafe(no_mangle)]
 pub extern "C" fn tables_atan_1024(out: &mut [u16; FINE_ENTRIES])
     ensures { out.new ≡ atan_table 1024 }
 {
-    tables::atan_1024(out);
+    *out = atan::<FINE_ENTRIES>();
 }
 
 #[unsafe(no_mangle)]
 pub extern "C" fn tables_sine_256(out: &mut [u16; COARSE_ENTRIES])
     ensures { out.new ≡ sine_table 256 }
 {
-    tables::sine_256(out);
+    *out = sine::<COARSE_ENTRIES>();
 }
 
 #[unsafe(no_mangle)]
 pub extern "C" fn tables_sine_1024(out: &mut [u16; FINE_ENTRIES])
     ensures { out.new ≡ sine_table 1024 }
 {
-    tables::sine_1024(out);
+    *out = sine::<FINE_ENTRIES>();
 }

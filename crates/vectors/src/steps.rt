@@ -1,51 +1,16 @@
-// The unit vector of an angle, and how much shorter than a unit the mean of such vectors is. The caller lends the table
-// and has tested the ranges.
-ghost use Rattle.std.specs.Prelude.{◌≡◌, cond, ◌+◌, ◌*◌, ◌%◌, ◌^◌, ◌<◌, ◌≤◌, eqb, pos, neg_ℤ, nat_abs};
-ghost use Rattle.window.specs.Window.{max_rows, row_reciprocal};
-ghost use Rattle.vectors.specs.Tables.{sin_quarter};
-ghost use Rattle.vectors.specs.Vector.{by_quarter, cos_at, sin_at, div_round, rounded_root, missing_ppm, column_ppm};
+// How much shorter than a unit the mean of unit vectors is. The caller has tested the ranges.
+ghost use Rattle.std.specs.Prelude.{◌≡◌, ◌+◌, ◌*◌, ◌^◌, ◌<◌, ◌≤◌, nat_abs};
+ghost use Rattle.vectors.specs.Vector.{div_round, rounded_root, missing_ppm, column_ppm};
 
-use crate::tables::sin_quarter;
 use crate::{UNIT, UnitVector};
+use window::share::Rows;
 
-// The magnitude of the sine in a quarter turn, of the two that the table gives.
-fn magnitude(quadrant: u16, s: u16, c: u16) -> u16
-    ensures { result ≡ cond (eqb (quadrant % 2) 0) s c }
+// The magnitude of a component's mean over as many vectors as there are rows, rounded to the nearest.
+fn mean_magnitude(rows: Rows, a: i32) -> u64
+    requires { nat_abs a ≤ 16384 * rows.w }
+    ensures { (result ≡ nat_abs (div_round a rows.w)) × (result ≤ 16384) }
 {
-    if quadrant % 2 == 0 { s } else { c }
-}
-
-// The sine in a quarter turn: two choices and no jump, since the quarter turns of still angles about 0 change at random.
-fn sine_in(quadrant: u16, s: u16, c: u16) -> i32
-    requires { quadrant < 4 }
-    ensures { result ≡ by_quarter quadrant (pos s) (pos c) (neg_ℤ (pos s)) (neg_ℤ (pos c)) }
-{
-    let x = magnitude(quadrant, s, c) as i32;
-    if quadrant < 2 { x } else { -x }
-}
-
-// Cosine and sine, scaled to 16,384, of the angle with these bits. The cosine is the sine a quarter turn on.
-pub fn unit_vector(table: &[u16; 257], bits: u16) -> UnitVector
-    requires { table.now ≡ sin_quarter }
-    ensures { (result.cos ≡ cos_at bits) × (result.sin ≡ sin_at bits) }
-{
-    let a = bits / 64;
-    let quadrant = a / 256;
-    let i = (a % 256) as usize;
-    let s = sin_quarter(table, i);
-    let c = sin_quarter(table, 256 - i);
-    UnitVector {
-        cos: sine_in((quadrant + 1) % 4, s, c),
-        sin: sine_in(quadrant, s, c),
-    }
-}
-
-// The magnitude of a component's mean over w vectors, whose reciprocal is m, rounded to the nearest.
-fn mean_magnitude(a: i32, w: u64, m: u64) -> u64
-    requires { (1 ≤ w) × (w ≤ max_rows) × (m ≡ row_reciprocal w) × (nat_abs a ≤ 16384 * w) }
-    ensures { (result ≡ nat_abs (div_round a w)) × (result ≤ 16384) }
-{
-    window::steps::per_row(num::unsigned_abs_i32(a) + w / 2, w, m)
+    rows.share(u64::from(a.unsigned_abs()) + rows.w / 2)
 }
 
 // The root of sq, rounded to the nearest, where e is at most 1 below it.
@@ -70,14 +35,10 @@ fn rounded_root(sq: u32) -> u32
     requires { sq ≤ 2 ^ 29 }
     ensures { result ≡ rounded_root sq }
 {
-    let a = sq / 32768;
-    if a < 8065 {
-        return root_of(sq);
+    match sq / 32768 {
+        a @ 8065..=8192 => root_from(sq, 8192 + a),
+        _ => root_of(sq),
     }
-    if 8192 < a {
-        return root_of(sq);
-    }
-    root_from(sq, 8192 + a)
 }
 
 // What a mean vector of this squared length misses of a whole one, in parts per million: 10^6 / 2^14 is 15,625 / 256.
@@ -85,19 +46,15 @@ fn missing_ppm(sq: u32) -> u32
     requires { sq ≤ 2 ^ 29 }
     ensures { result ≡ missing_ppm sq }
 {
-    let r = rounded_root(sq);
-    if UNIT < r {
-        return 0;
-    }
-    (UNIT - r) * 15625 / 256
+    UNIT.saturating_sub(rounded_root(sq)) * 15625 / 256
 }
 
-// The circular variance of w angles whose unit vectors add up to these sums, in parts per million.
-pub fn column_ppm(w: u64, m: u64, cosines: i32, sines: i32) -> u32
-    requires { (1 ≤ w) × (w ≤ max_rows) × (m ≡ row_reciprocal w) × (nat_abs cosines ≤ 16384 * w) × (nat_abs sines ≤ 16384 * w) }
-    ensures { result ≡ column_ppm w cosines sines }
+// The circular variance of an angle in each row, in parts per million, where their unit vectors add up to `sum`.
+pub fn column_ppm(rows: Rows, sum: UnitVector) -> u32
+    requires { (nat_abs sum.cos ≤ 16384 * rows.w) × (nat_abs sum.sin ≤ 16384 * rows.w) }
+    ensures { result ≡ column_ppm rows.w sum.cos sum.sin }
 {
-    let mc = mean_magnitude(cosines, w, m);
-    let ms = mean_magnitude(sines, w, m);
-    missing_ppm((mc * mc + ms * ms) as u32)
+    let cos = mean_magnitude(rows, sum.cos);
+    let sin = mean_magnitude(rows, sum.sin);
+    missing_ppm((cos * cos + sin * sin) as u32)
 }

@@ -1,9 +1,15 @@
-// The sine table, and one entry of it.
-ghost use Rattle.std.specs.Prelude.{◌≡◌, ◌<◌, get_or};
+// The sine table, and the unit vectors that are read from it.
+ghost use Rattle.std.specs.Prelude.{◌≡◌, cond, ◌%◌, ◌<◌, eqb, pos, neg_ℤ, get_or};
 ghost use Rattle.vectors.specs.Tables.{sin_quarter};
+ghost use Rattle.vectors.specs.Vector.{by_quarter, cos_at, sin_at};
+
+use crate::UnitVector;
+
+// The entries of the table.
+pub const ENTRIES: usize = 257;
 
 // sin over a quarter turn in 256 steps, scaled to 2^14.
-const SIN_QUARTER: [u16; 257] = [
+const SIN_QUARTER: [u16; ENTRIES] = [
     0, 101, 201, 302, 402, 503, 603, 704, 804, 904, 1005, 1105, 1205, 1306, 1406, 1506, 1606, 1706,
     1806, 1906, 2006, 2105, 2205, 2305, 2404, 2503, 2603, 2702, 2801, 2900, 2999, 3098, 3196, 3295,
     3393, 3492, 3590, 3688, 3786, 3883, 3981, 4078, 4176, 4273, 4370, 4467, 4563, 4660, 4756, 4852,
@@ -25,16 +31,55 @@ const SIN_QUARTER: [u16; 257] = [
     16384,
 ];
 
-// The table, for a local that is read many times: a constant is copied where it is named.
-pub fn sin_table() -> [u16; 257]
-    ensures { result ≡ sin_quarter }
-{
-    SIN_QUARTER
+// The table as a local that is lent to its readers: a constant is copied wherever it is named.
+#[derive(Drop)]
+pub struct SinTable {
+    pub entries: [u16; ENTRIES],
+    pub ghost is_table: { entries ≡ sin_quarter },
 }
 
-pub(crate) fn sin_quarter(table: &[u16; 257], i: usize) -> u16
-    requires { (i < 257) × (table.now ≡ sin_quarter) }
-    ensures { result ≡ get_or sin_quarter i 0 }
+impl SinTable {
+    pub fn new() -> Self {
+        SinTable {
+            entries: SIN_QUARTER,
+        }
+    }
+
+    fn entry(&self, i: usize) -> u16
+        requires { i < 257 }
+        ensures { result ≡ get_or sin_quarter i 0 }
+    {
+        self.entries[i]
+    }
+
+    // Cosine and sine, scaled to 16,384, of the angle with these bits. The cosine is the sine a quarter turn on.
+    pub fn unit_vector(&self, bits: u16) -> UnitVector
+        ensures { (result.cos ≡ cos_at bits) × (result.sin ≡ sin_at bits) }
+    {
+        let a = bits / 64;
+        let quadrant = a / 256;
+        let i = usize::from(a % 256);
+        let s = self.entry(i);
+        let c = self.entry(256 - i);
+        UnitVector {
+            cos: sine_in((quadrant + 1) % 4, s, c),
+            sin: sine_in(quadrant, s, c),
+        }
+    }
+}
+
+// The magnitude of the sine in a quarter turn, of the two that the table gives.
+fn magnitude(quadrant: u16, s: u16, c: u16) -> u16
+    ensures { result ≡ cond (eqb (quadrant % 2) 0) s c }
 {
-    table[i]
+    if quadrant % 2 == 0 { s } else { c }
+}
+
+// The sine in a quarter turn: two choices and no jump, since the quarter turns of still angles about 0 change at random.
+fn sine_in(quadrant: u16, s: u16, c: u16) -> i32
+    requires { quadrant < 4 }
+    ensures { result ≡ by_quarter quadrant (pos s) (pos c) (neg_ℤ (pos s)) (neg_ℤ (pos c)) }
+{
+    let x = i32::from(magnitude(quadrant, s, c));
+    if quadrant < 2 { x } else { -x }
 }

@@ -2,14 +2,16 @@
 use mathlib.Core.Path.{◌≡◌, refl}
 use mathlib.Core.List.{[], ◌∷◌}
 use lib.IntN.{pos, negsuc}
+use Rattle.std.specs.Prelude.{Err}
 use Rattle.num.specs.Lists.{build, first}
 use Rattle.num.specs.Sum.{sum_z}
+use Rattle.refusal.specs.declared.Refusal.TheVariants.{Settings}
 use Rattle.vitals.specs.Band.{usable, lags_answer, heart_at}
 use Rattle.vitals.specs.Series.{highpassed}
 use Rattle.vitals.specs.Peak.{best_lag, peak_or, highest}
 
 -- a rate of 0 is refused
-no-rate : lags_answer (heart_at 50).band 0 ≡ record { refusal = 1; lags = record { lo = 0; hi = 0 } }
+no-rate : lags_answer (heart_at 50).band 0 ≡ Err Settings
 unfolding usable
 no-rate = refl
 

@@ -1,14 +1,15 @@
--- The ranges that a test of settings stands for; a divisor that is exact. Assumes nothing.
+-- The ranges that a test of settings stands for; the library's clamp. Assumes nothing.
 use mathlib.Core.Path.{◌≡◌, refl}
-use mathlib.Core.Bool.{true}
+use mathlib.Core.Bool.{Bool, true, false}
 use Prim.Native.Nat.{ℕ, ◌≤◌}
 use borrow.Author.Tests.{leb-true}
-use lib.Dec.{leb}
+use lib.Dec.{leb, ltb}
+use lib.IntN.{ℤ, pos, negsuc}
+use Rattle.std.specs.Int.{int_max, int_min}
+use Rattle.num.specs.Clamp.{clamp_z}
 use Rattle.num.proofs.Logic.{both}
 use Rattle.vitals.specs.Band.{usable}
-use Rattle.vitals.specs.Steps.{Exact, divisor_of}
 use Rattle.vitals.specs.declared.band.Band.{Band}
-use Rattle.vitals.specs.declared.steps.divide.Divisor.{Divisor}
 
 pub record Usable (b : Band) (rate : ℕ) : Type 0 where
   pub slow : 1 ≤ rate
@@ -27,5 +28,11 @@ usable-facts b rate e =
       high = leb-true 1 b.hi_mhz three.1;
     }
 
-pub exact : (d : Divisor) (n : ℕ) → d ≡ divisor_of n → 1 ≤ n → n ≤ 32767 → Exact d
-exact d n e some few = rw e (record { some = some; few = few; factor = refl })
+-- the library's `clamp` between a negative limit and one that is not
+pub clamp-is : (a b : ℕ) (z : ℤ) → int_max (negsuc a) (int_min z (pos b)) ≡ clamp_z (negsuc a) (pos b) z
+clamp-is a b (negsuc n) = refl
+clamp-is a b (pos n) = go (ltb b n) refl
+  where
+    go : (t : Bool) → ltb b n ≡ t → int_max (negsuc a) (int_min (pos n) (pos b)) ≡ clamp_z (negsuc a) (pos b) (pos n)
+    go true e = rw e refl
+    go false e = rw e refl

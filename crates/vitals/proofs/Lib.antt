@@ -1,7 +1,7 @@
 -- Laws that the proofs share.
 pub mod Facts
 pub mod Windows
-pub mod Doubled
 pub mod Lagged
+pub mod Padded
 pub mod Theorems
 pub mod Cases

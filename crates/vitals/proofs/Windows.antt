@@ -6,7 +6,11 @@ use native.Mathlib.Omega.{arith}
 use lib.ListN.{length, take, drop, length-take}
 use lib.Seq.{slice, length-slice, get_or-take, get_or-drop}
 use lib.IntN.{ℤ, pos, nat_abs, ◌+ℤ◌, ◌-ℤ◌}
+use mir.Syntax.{w32}
+use mir.Val.{SFits, to_z, of_z}
 use Rattle.num.specs.Sum.{sum_z}
+use Rattle.num.proofs.Abs.{add-fits, sub-fits}
+use Rattle.num.proofs.Read.{read-abs}
 use Rattle.num.proofs.Each.{at_every}
 use Rattle.num.proofs.Lists.{take_min}
 use Rattle.num.proofs.SumZ.{sum-size, sum-grown, sum-shrunk}
@@ -34,6 +38,20 @@ module _ (x : List ℤ) (w : Window) (slid : Slid x w) (few : length x ≤ 512) 
 
   pub room : nat_abs w.sum ≤ 16777216
   room = omega (arith, window-size, slid.inside)
+
+  -- a sample added or taken off, as the code has it, v being what it reads
+  module _ (k : ℕ) (v : ℤ) (e : v ≡ at x k) where
+    pub added : to_z w32 (of_z w32 w.sum) +ℤ to_z w32 (of_z w32 v) ≡ w.sum +ℤ at x k
+    added = rw (e, read-abs w32 w.sum (omega (arith, room)), read-abs w32 (at x k) (omega (arith, s k)))
+
+    pub added_fits : SFits w32 (to_z w32 (of_z w32 w.sum) +ℤ to_z w32 (of_z w32 v))
+    added_fits = rw added (add-fits w.sum (at x k) (omega (arith, room, s k)))
+
+    pub taken : to_z w32 (of_z w32 w.sum) -ℤ to_z w32 (of_z w32 v) ≡ w.sum -ℤ at x k
+    taken = rw (e, read-abs w32 w.sum (omega (arith, room)), read-abs w32 (at x k) (omega (arith, s k)))
+
+    pub taken_fits : SFits w32 (to_z w32 (of_z w32 w.sum) -ℤ to_z w32 (of_z w32 v))
+    taken_fits = rw taken (sub-fits w.sum (at x k) (omega (arith, room, s k)))
 
   -- one sample more at the end, or one less at the start
   pub longer : (sum : ℤ) → sum ≡ w.sum +ℤ at x w.hi → w.hi < length x → Slid x (record { sum = sum; lo = w.lo; hi = w.hi + 1 })

@@ -1,8 +1,9 @@
 -- A frequency band, its lags, and the settings (vitals.rs, `Band::lags`, `VitalsConfig::breathing`, `VitalsConfig::heart`). Assumes nothing.
-use Rattle.std.specs.Prelude.{ℕ, ◌+◌, ◌-◌, ◌*◌, ◌/◌, ◌%◌, max, Bool, cond, ◌&&◌, leb}
+use Rattle.std.specs.Prelude.{ℕ, ◌+◌, ◌-◌, ◌*◌, ◌/◌, ◌%◌, max, Bool, cond, ◌&&◌, leb, Result, Ok, Err}
+use Rattle.refusal.specs.declared.Refusal.{Refusal}
+use Rattle.refusal.specs.declared.Refusal.TheVariants.{Settings}
 use Rattle.vitals.specs.declared.band.Band.{Band}
 use Rattle.vitals.specs.declared.band.Lags.{Lags}
-use Rattle.vitals.specs.declared.band.Covered.{Covered}
 use Rattle.vitals.specs.declared.config.VitalsConfig.{VitalsConfig}
 
 -- a / b, rounded up
@@ -17,9 +18,12 @@ lags_of b rate = record { lo = max 2 (rate * 1000 / b.hi_mhz); hi = ceil_div (ra
 unfoldable pub usable : Band → ℕ → Bool
 usable b rate = leb 1 rate && (leb rate 1000 && (leb 1 b.lo_mhz && leb 1 b.hi_mhz))
 
--- what `Band::lags` answers
-abbrev pub lags_answer : Band → ℕ → Covered
-lags_answer b rate = cond (usable b rate) (record { refusal = 0; lags = lags_of b rate }) (record { refusal = 1; lags = record { lo = 0; hi = 0 } })
+-- what `Band::lags` answers, and its number
+abbrev pub lags_answer : Band → ℕ → Result Lags Refusal
+lags_answer b rate = cond (usable b rate) (Ok (lags_of b rate)) (Err Settings)
+
+abbrev pub lags_refusal : Band → ℕ → ℕ
+lags_refusal b rate = cond (usable b rate) 0 1
 
 -- 0.15 to 0.55 Hz at ten block means a second, and 0.7 to 2.2 Hz at 25; `as u16` keeps the lowest 16 bits
 abbrev pub breathing_at : ℕ → VitalsConfig

@@ -4,4 +4,6 @@ pub mod Series
 pub mod Correlation
 pub mod Peak
 pub mod Rate
+pub mod Divide
+pub mod Energy
 pub mod Steps

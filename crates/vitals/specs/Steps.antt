@@ -1,40 +1,11 @@
 -- What the contracts of the inner steps say. Assumes nothing.
-use Rattle.std.specs.Prelude.{◌≡◌, List, ℕ, ◌+◌, ◌-◌, ◌*◌, ◌/◌, ◌^◌, ◌≤◌, min, length, take, drop, ℤ, pos, nat_abs, ◌+ℤ◌}
+use Rattle.std.specs.Prelude.{◌≡◌, List, ℕ, ◌+◌, ◌-◌, ◌*◌, ◌≤◌, min, length, take, drop, ℤ, pos, nat_abs, ◌+ℤ◌}
 use Rattle.std.proofs.Math.Seq.{slice}
 use Rattle.num.specs.Limits.{max_subcarriers}
 use Rattle.num.specs.Sum.{sum_z, dot_z}
 use Rattle.vitals.specs.Series.{at}
 use Rattle.vitals.specs.Correlation.{energy, corr_of}
-use Rattle.vitals.specs.declared.steps.divide.Divisor.{Divisor}
-use Rattle.vitals.specs.declared.steps.correlation.Energy.{Energy}
 use Rattle.vitals.specs.declared.steps.series.Window.{Window}
-
--- what to multiply with, for a division by d: 1 / d in 2^46ths, rounded up
-abbrev pub inverse : ℕ → ℕ
-inverse d = 2 ^ 46 / d + 1
-
--- a divisor and its factor
-abbrev pub divisor_of : ℕ → Divisor
-divisor_of d = record { by = d; factor = inverse d }
-
-pub record Exact (d : Divisor) : Type 0 where
-  pub some : 1 ≤ d.by
-  pub few : d.by ≤ 32767
-  pub factor : d.factor ≡ inverse d.by
-
--- the largest energy: 512 samples of 16 bits
-abbrev pub most_energy : ℕ
-most_energy = 512 * (32768 * 32768)
-
--- what to multiply with, for 1000 n / e: in 2^44ths, rounded up
-abbrev pub per_energy : (n e : ℕ) → ℕ
-per_energy n e = 1000 * n * 2 ^ 44 / e + 1
-
--- the energy of n samples, and its factor
-pub record Scaled (n : ℕ) (e : Energy) : Type 0 where
-  pub some : 1 ≤ e.sum
-  pub most : e.sum ≤ most_energy
-  pub factor : e.factor ≡ per_energy n e.sum
 
 -- each sample has 16 bits
 abbrev pub Samples : List ℤ → Type 0
@@ -67,12 +38,6 @@ ZerosFrom n x = (k : ℕ) → n ≤ k → at x k ≡ pos 0
 -- the samples of a block, whose products are summed at a time
 abbrev pub block_len : ℕ
 block_len = 64
-
--- a series of n samples with a block of zeros behind it
-pub record Padded (n : ℕ) (x : List ℤ) : Type 0 where
-  pub long : length x ≡ n + block_len
-  pub zeros : ZerosFrom n x
-  pub samples : Samples x
 
 -- the largest sum of the columns' correlations, each of which is at most 2000
 abbrev pub most_summed : ℕ

@@ -1,5 +1,5 @@
 // How to estimate (vitals.rs, `VitalsConfig`).
-ghost use Rattle.std.specs.Prelude.{◌≡◌, ◌%◌};
+ghost use Rattle.std.specs.Prelude.{◌≡◌};
 ghost use Rattle.vitals.specs.Band.{breathing_at, heart_at};
 
 use crate::band::Band;
@@ -7,7 +7,7 @@ use crate::band::Band;
 // Frames averaged into a block mean, the rate of the means, the band, the block means between estimates, the confidence
 // from which on an estimate is accepted, and the samples of the moving average to take off, or 0.
 #[repr(C)]
-#[derive(Clone, Copy)]
+#[derive(Clone, Copy, Debug, PartialEq, Eq)]
 pub struct VitalsConfig {
     pub decim: u16,
     pub rate_hz: u32,
@@ -17,20 +17,13 @@ pub struct VitalsConfig {
     pub highpass: u16,
 }
 
-// The lowest 16 bits: Rust's `x as u16`.
-fn low16(x: u32) -> u16
-    ensures { result ≡ x % 65536 }
-{
-    (x % 65536) as u16
-}
-
 impl VitalsConfig {
     // Breathing, 9 to 33 a minute, from `frame_hz` frames a second: ten block means a second, an estimate every second.
     pub fn breathing(frame_hz: u32) -> VitalsConfig
         ensures { result ≡ breathing_at frame_hz }
     {
         VitalsConfig {
-            decim: low16(frame_hz / 10),
+            decim: (frame_hz / 10 % 65536) as u16,
             rate_hz: 10,
             band: Band {
                 lo_mhz: 150,
@@ -47,7 +40,7 @@ impl VitalsConfig {
         ensures { result ≡ heart_at frame_hz }
     {
         VitalsConfig {
-            decim: low16(frame_hz / 25),
+            decim: (frame_hz / 25 % 65536) as u16,
             rate_hz: 25,
             band: Band {
                 lo_mhz: 700,

@@ -3,10 +3,10 @@
 
 ghost use Rattle.std.specs.Prelude.{◌*◌, ◌+◌, ◌≤◌, ◌<◌, length};
 
-use cases::{Case, number, text};
-use estimator::{Answer, Begun, Pushed, VitalsEstimator};
+use estimator::{Vitals, VitalsEstimator};
+use num::steps::{u16_at, u32_at};
+use refusal::Refusal;
 use std::io;
-use std::io::Input;
 use vitals::band::Band;
 use vitals::config::VitalsConfig;
 use window::COLUMNS;
@@ -29,229 +29,139 @@ struct Run {
     state: VitalsEstimator,
 }
 
-fn refused(rt: &impl Print, refusal: u8) -> io::Result<()> {
-    text(rt, b"refused")?;
-    number(rt, refusal as u64)
+fn refused(rt: &impl Print, refusal: Refusal) -> io::Result<()> {
+    print!(rt; "refused {}", refusal.number())
 }
 
 fn lags(rt: &impl Print, bytes: &[u8]) -> io::Result<()>
     requires { 12 ≤ length bytes.now }
 {
     let band = Band {
-        lo_mhz: num::steps::u32_at(bytes, 0),
-        hi_mhz: num::steps::u32_at(bytes, 4),
+        lo_mhz: u32_at(bytes, 0),
+        hi_mhz: u32_at(bytes, 4),
     };
-    let c = band.lags(num::steps::u32_at(bytes, 8));
-    if c.refusal == 0 {
-        text(rt, b"lags")?;
-        number(rt, c.lags.lo as u64)?;
-        number(rt, c.lags.hi as u64)?;
-    } else {
-        refused(rt, c.refusal)?;
+    match band.lags(u32_at(bytes, 8)) {
+        Ok(lags) => print!(rt; "lags {} {}", lags.lo, lags.hi),
+        Err(refusal) => refused(rt, refusal),
     }
-    Ok(())
 }
 
 fn settings(bytes: &[u8]) -> VitalsConfig
     requires { 22 ≤ length bytes.now }
 {
     VitalsConfig {
-        decim: num::steps::u16_at(bytes, 2),
-        rate_hz: num::steps::u32_at(bytes, 4),
+        decim: u16_at(bytes, 2),
+        rate_hz: u32_at(bytes, 4),
         band: Band {
-            lo_mhz: num::steps::u32_at(bytes, 8),
-            hi_mhz: num::steps::u32_at(bytes, 12),
+            lo_mhz: u32_at(bytes, 8),
+            hi_mhz: u32_at(bytes, 12),
         },
-        update_every: num::steps::u16_at(bytes, 16),
-        accept_permille: num::steps::u16_at(bytes, 18),
-        highpass: num::steps::u16_at(bytes, 20),
+        update_every: u16_at(bytes, 16),
+        accept_permille: u16_at(bytes, 18),
+        highpass: u16_at(bytes, 20),
     }
 }
 
-// The rows of n blocks, or all there are.
+// The bytes of n blocks' rows, or of all there are.
 fn bytes_of(n: usize) -> usize
     ensures { result ≤ 16384 }
 {
     if n <= MOST_BLOCKS {
-        return 2 * (n * COLUMNS);
-    }
-    ROOM
-}
-
-// A new estimator, or the one before where the settings are refused.
-fn begin(rt: &impl Print, rows: &[u8], run: Run, bytes: &[u8]) -> io::Result<Run>
-    requires { (16384 ≤ length rows.now) × (22 ≤ length bytes.now) }
-{
-    let n = num::steps::u16_at(bytes, 0) as usize;
-    let config = settings(bytes);
-    let b = VitalsEstimator::new(&rows[0..bytes_of(n)], n, config);
-    if b.refusal == 0 {
-        text(rt, b"new")?;
-        let state = b.state;
-        return Ok(Run { n, config, state });
-    }
-    refused(rt, b.refusal)?;
-    Ok(run)
-}
-
-fn reset(rt: &impl Print, rows: &[u8], run: Run) -> io::Result<Run>
-    requires { 16384 ≤ length rows.now }
-{
-    let state = run.state;
-    let config = run.config;
-    let b = state.reset(&rows[0..bytes_of(run.n)], run.n, config);
-    if b.refusal == 0 {
-        text(rt, b"reset")?;
+        2 * (n * COLUMNS)
     } else {
-        refused(rt, b.refusal)?;
+        ROOM
     }
-    let after = b.state;
-    Ok(Run {
-        n: run.n,
-        config,
-        state: after,
-    })
 }
 
-// The estimate, if one is due, or the refusal.
-fn answer(rt: &impl Print, p: Pushed) -> io::Result<()> {
-    if p.refusal == 0 {
-        let a = p.answer;
-        match a {
-            Answer::Due(v) => {
-                text(rt, b"estimate")?;
-                number(rt, v.bpm_x10 as u64)?;
-                number(rt, v.confidence as u64)?;
-                number(rt, v.lag_x16 as u64)?;
-                number(rt, v.at)?;
-                if v.accepted {
-                    text(rt, b" accepted")?;
-                }
-            }
-            Answer::NotDue => text(rt, b"-")?,
-        }
-    } else {
-        refused(rt, p.refusal)?;
+// The estimate, if one is due.
+fn estimate(rt: &impl Print, answer: Option<Vitals>) -> io::Result<()> {
+    let Some(v) = answer else {
+        return print!(rt; "-");
+    };
+    print!(rt;
+        "estimate {} {} {} {}",
+        v.bpm_x10, v.confidence, v.lag_x16, v.at
+    )?;
+    if v.accepted {
+        print!(rt; " accepted")?;
     }
     Ok(())
 }
 
-// Amplitude k of a frame.
-fn amplitude_of(bytes: &[u8], k: usize) -> u16 {
-    if COLUMNS <= k {
-        return 0;
-    }
-    if bytes.len() < 5 + 2 * (k + 1) {
-        return 0;
-    }
-    num::steps::u16_at(bytes, 5 + 2 * k)
-}
-
-fn amplitudes(bytes: &[u8]) -> [u16; COLUMNS] {
-    let mut out = [0u16; COLUMNS];
-    for k in 0..COLUMNS {
-        out[k] = amplitude_of(bytes, k);
-    }
-    out
-}
-
-fn wide(b: u8) -> usize {
-    b as usize
-}
-
-// A frame: its time, its count, its amplitudes.
-fn frame(rt: &impl Print, rows: &mut [u8], run: Run, bytes: &[u8]) -> io::Result<Run>
-    requires { (16384 ≤ length rows.old) × (5 ≤ length bytes.now) }
-{
-    let time = num::steps::u32_at(bytes, 0) as u64;
-    let count = wide(bytes[4]);
-    let state = run.state;
-    let config = run.config;
-    let n = run.n;
-    let p = state.push(
-        &mut rows[0..bytes_of(n)],
-        n,
-        config,
-        amplitudes(bytes),
-        count,
-        time,
-    );
-    let after = p.state;
-    answer(rt, p)?;
-    Ok(Run {
-        n,
-        config,
-        state: after,
-    })
-}
-
-fn line(rt: &impl Print, rows: &mut [u8], run: Run, bytes: &[u8]) -> io::Result<Run>
-    requires { 16384 ≤ length rows.old }
-{
-    let n = bytes.len();
-    if n == 0 {
-        return reset(rt, rows, run);
-    }
-    if n == BAND {
-        lags(rt, bytes)?;
-        return Ok(run);
-    }
-    if n == SETTINGS {
-        return begin(rt, rows, run, bytes);
-    }
-    if n < 5 {
-        return Ok(run);
-    }
-    frame(rt, rows, run, bytes)
-}
-
-// The estimator after the next case, and whether there was one.
-#[derive(Clone, Copy)]
-struct Replayed {
-    run: Run,
-    more: bool,
-}
-
-fn replay(rt: &(impl Input + Print), rows: &mut [u8], run: Run) -> io::Result<Replayed>
-    requires { 16384 ≤ length rows.old }
-{
-    let mut buf = [0u8; 256];
-    match cases::next(rt, &mut buf)? {
-        Case::Bytes(n) => {
-            if 256 < n {
-                return Ok(Replayed { run, more: false });
+impl Run {
+    // A new estimator, or the one before where the settings are refused.
+    fn begin(&mut self, rt: &impl Print, rows: &[u8], bytes: &[u8]) -> io::Result<()>
+        requires { (16384 ≤ length rows.now) × (22 ≤ length bytes.now) }
+    {
+        let n = u16_at(bytes, 0) as usize;
+        let config = settings(bytes);
+        match VitalsEstimator::new(&rows[..bytes_of(n)], n, config) {
+            Ok(state) => {
+                *self = Run { n, config, state };
+                print!(rt; "new")
             }
-            let after = line(rt, rows, run, &buf[0..n])?;
-            cases::end_line(rt)?;
-            Ok(Replayed {
-                run: after,
-                more: true,
-            })
+            Err(refusal) => refused(rt, refusal),
         }
-        Case::End => Ok(Replayed { run, more: false }),
+    }
+
+    fn reset(&mut self, rt: &impl Print, rows: &[u8]) -> io::Result<()>
+        requires { 16384 ≤ length rows.now }
+    {
+        match self
+            .state
+            .reset(&rows[..bytes_of(self.n)], self.n, self.config)
+        {
+            Ok(state) => {
+                self.state = state;
+                print!(rt; "reset")
+            }
+            Err(refusal) => refused(rt, refusal),
+        }
+    }
+
+    // A frame: its time, its count, its amplitudes.
+    fn frame(&mut self, rt: &impl Print, rows: &mut [u8], bytes: &[u8]) -> io::Result<()>
+        requires { (16384 ≤ length rows.old) × (5 ≤ length bytes.now) }
+    {
+        let pushed = self.state.push(
+            &mut rows[..bytes_of(self.n)],
+            self.n,
+            self.config,
+            cases::words(&bytes[5..]),
+            usize::from(bytes[4]),
+            u64::from(u32_at(bytes, 0)),
+        );
+        match pushed {
+            Ok(pushed) => {
+                self.state = pushed.state;
+                estimate(rt, pushed.answer)
+            }
+            Err(refusal) => refused(rt, refusal),
+        }
+    }
+
+    fn line(&mut self, rt: &impl Print, rows: &mut [u8], bytes: &[u8]) -> io::Result<()>
+        requires { 16384 ≤ length rows.old }
+    {
+        match bytes.len() {
+            0 => self.reset(rt, rows),
+            BAND => lags(rt, bytes),
+            SETTINGS => self.begin(rt, rows, bytes),
+            1..5 => Ok(()),
+            _ => self.frame(rt, rows, bytes),
+        }
     }
 }
-
-// The most cases that are replayed.
-const MOST: usize = 100000;
 
 fn main(rt: HostRuntime) -> io::Result<()> {
     let mut rows = [0u8; ROOM];
-    let config = VitalsConfig::breathing(50);
-    let b = VitalsEstimator::new(&rows, MOST_BLOCKS, config);
-    let state = b.state;
     let mut run = Run {
         n: MOST_BLOCKS,
-        config,
-        state,
+        config: VitalsConfig::breathing(50),
+        state: VitalsEstimator::blank(),
     };
-    for _i in 0..MOST {
-        let r = replay(&rt, &mut rows, run)?;
-        if !r.more {
-            return Ok(());
-        }
-        let next = r.run;
-        run = next;
-    }
-    Ok(())
+    cases::each::<256, _>(&rt, |case| {
+        run.line(&rt, &mut rows, case)?;
+        println!(rt; "")
+    })
 }

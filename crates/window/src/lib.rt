@@ -3,6 +3,7 @@
 
 ghost use Rattle.std.specs.Prelude.{◌≡◌, length, replicate};
 
+pub mod share;
 pub mod steps;
 
 // Entries in a row: one for each subcarrier.
@@ -15,9 +16,5 @@ pub const MAX_ROWS: usize = 8192;
 pub fn clear(rows: &mut [u8])
     ensures { rows.new ≡ replicate (length rows.old) 0 }
 {
-    let mut i = 0;
-    while i < rows.len() {
-        rows[i] = 0;
-        i += 1;
-    }
+    rows.fill(0);
 }

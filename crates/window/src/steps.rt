@@ -14,7 +14,7 @@ pub fn entry(rows: &[u8], at: usize) -> u16
     ensures { result ≡ get_or (words rows.now) at 0 }
 {
     let i = 2 * at;
-    (rows[i] as u16) + 256 * (rows[i + 1] as u16)
+    u16::from_le_bytes([rows[i], rows[i + 1]])
 }
 
 pub fn put_entry(rows: &mut [u8], at: usize, v: u16)
@@ -22,8 +22,9 @@ pub fn put_entry(rows: &mut [u8], at: usize, v: u16)
     ensures { rows.new ≡ put_word rows.old at v }
 {
     let i = 2 * at;
-    rows[i] = (v % 256) as u8;
-    rows[i + 1] = (v / 256) as u8;
+    let [low, high] = v.to_le_bytes();
+    rows[i] = low;
+    rows[i + 1] = high;
 }
 
 // Writes the first `count` of `new` over the row in `slot`. Entries from `count` on stay.

@@ -6,7 +6,7 @@ use Rattle.chance.proofs.Tables.{past}
 use Rattle.chance.proofs.ways_at.Goals as goal
 
 pub returns-then-k-ge-LAYERS : goal.returns-then-k-ge-LAYERS
-returns-then-k-ge-LAYERS c = sym (past _ _ _ c.requires.0 c.if-k-ge-LAYERS.true)
+returns-then-k-ge-LAYERS c = sym (past _ _ _ c.told-table c.if-k-ge-LAYERS.true)
 
 pub returns : goal.returns
 unfolding ways_at

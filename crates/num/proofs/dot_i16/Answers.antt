@@ -1,98 +1,94 @@
--- `num::dot_i16` meets its contract: the sum so far and that of the rest make the whole. Assumes nothing.
-use mathlib.Core.Path.{◌≡◌, sym, ap, ◌∙◌}
-use mathlib.Core.List.{List}
-use Prim.Native.Nat.{ℕ, suc, ◌+◌, ◌*◌, ◌^◌, ◌≤◌, ◌<◌, min}
+-- `num::dot_i16` meets its contract: the sum so far and that of what is left make the whole. Assumes nothing.
+use mathlib.Core.Path.{◌≡◌, sym, ap, ap₂, ◌∙◌}
+use mathlib.Core.List.{List, ◌∷◌}
+use mathlib.Core.Logic.{◌⊎◌, inl, inr}
+use Prim.Native.Nat.{ℕ, ◌+◌, ◌*◌, ◌^◌, ◌≤◌, min}
 use native.Mathlib.Nat.{mul-le-mul}
-use native.Mathlib.Numerals.{add-one}
 use native.Mathlib.Omega.{arith}
-use borrow.Author.Rules.{sfits_of}
+use borrow.Author.Rules.{rules}
 use lib.IntN.{ℤ, pos, nat_abs, ◌+ℤ◌, ◌*ℤ◌, +ℤ_idl, +ℤ_idr, +ℤ_assoc}
-use lib.ListN.{length, get_or, take, drop}
-use lib.Seq.{drop-cons}
+use lib.ListN.{length, take, length-take}
 use mir.Syntax.{w16, w64}
-use mir.Val.{SFits, to_z}
+use mir.Val.{SFits, to_z, of_z}
 use mir.Facts.{to_z-of_z}
+use Rattle.std.proofs.lemmas.List.{nil_from_length}
 use Rattle.num.specs.Sum.{dot_z, max_terms}
 use Rattle.num.proofs.Abs.{sfits-abs, abs-sfits, abs-add, abs-mul}
-use Rattle.num.proofs.Fill.{next, done}
-use Rattle.num.proofs.Sum.{dot-terms}
-use Rattle.num.proofs.Read.{to64, read-16-64}
+use Rattle.num.proofs.Sum.{dot-nil, dot-terms}
+use Rattle.num.proofs.Read.{read-16-64}
 use Rattle.num.proofs.dot_i16.Invariants.{Summed}
 use Rattle.num.proofs.dot_i16.Goals as goal
 
-start : (xs ys : List ℤ) (n : ℕ) → Summed xs ys n (pos 0) 0
-start xs ys n = record { within = omega arith; split = sym (+ℤ_idl (dot_z (take n xs) ys)); small = omega arith }
+start : (xs ys us vs : List ℤ) (n : ℕ) → us ≡ take n xs → vs ≡ ys → Summed xs ys n (pos 0) us vs
+start xs ys us vs n eu ev = record {
+  split = sym (+ℤ_idl (dot_z us vs) ∙ ap₂ dot_z eu ev);
+  small = omega (arith, ap (λ (l : List ℤ). length l) eu, length-take n xs);
+}
 
 -- what a turn of the loop gives
-record Turn (xs ys : List ℤ) (n : ℕ) (sum : ℤ) (k : ℕ) : Type 0 where
-  term_fits : SFits w64 (get_or xs k (pos 0) *ℤ get_or ys k (pos 0))
-  sum_fits : SFits w64 (sum +ℤ get_or xs k (pos 0) *ℤ get_or ys k (pos 0))
-  summed : Summed xs ys n (sum +ℤ get_or xs k (pos 0) *ℤ get_or ys k (pos 0)) (k + 1)
+record Turn (xs ys : List ℤ) (n : ℕ) (sum x y : ℤ) (us vs : List ℤ) : Type 0 where
+  term_fits : SFits w64 (x *ℤ y)
+  sum_fits : SFits w64 (sum +ℤ x *ℤ y)
+  summed : Summed xs ys n (sum +ℤ x *ℤ y) us vs
 
-module _ {xs ys : List ℤ} {n : ℕ} {sum : ℤ} {k : ℕ} (w : Summed xs ys n sum k) (h : k < n) (most : n ≡ min (length xs) (min (length ys) max_terms)) (fx : SFits w16 (get_or xs k (pos 0))) (fy : SFits w16 (get_or ys k (pos 0))) where
-  abbrev term : ℤ
-  term = get_or xs k (pos 0) *ℤ get_or ys k (pos 0)
+module _ {xs ys us vs ws zs : List ℤ} {n : ℕ} {sum x y : ℤ} (s : Summed xs ys n sum ws zs) (most : n ≤ max_terms) (eu : ws ≡ x ∷ us) (ev : zs ≡ y ∷ vs) (fx : SFits w16 x) (fy : SFits w16 y) where
+  term-small : nat_abs (x *ℤ y) ≤ 2 ^ 30
+  term-small = omega (arith, abs-mul x y, mul-le-mul (abs-sfits x fx) (abs-sfits y fy))
 
-  term-small : nat_abs term ≤ 2 ^ 30
-  term-small =
-      let x = get_or xs k (pos 0) in let y = get_or ys k (pos 0) in
-      omega (arith, abs-mul x y, mul-le-mul (abs-sfits x fx) (abs-sfits y fy))
+  next-small : nat_abs (sum +ℤ x *ℤ y) + 2 ^ 30 * length us ≤ 2 ^ 30 * n
+  next-small = omega (arith, abs-add sum (x *ℤ y), s.small, ap (λ (l : List ℤ). length l) eu, term-small)
 
-  next_small : nat_abs (sum +ℤ term) ≤ 2 ^ 30 * (k + 1)
-  next_small = omega (arith, abs-add sum term, w.small, term-small)
-
-  next-split : dot_z (take n xs) ys ≡ sum +ℤ term +ℤ dot_z (drop (k + 1) (take n xs)) (drop (k + 1) ys)
+  next-split : dot_z (take n xs) ys ≡ sum +ℤ x *ℤ y +ℤ dot_z us vs
   unfolding dot_z
-  next-split =
-      w.split
-      ∙ rw (next xs n k (pos 0) h (omega arith), drop-cons ys k (pos 0) (omega arith), add-one k) (sym (+ℤ_assoc sum term (dot_z (drop (suc k) (take n xs)) (drop (suc k) ys))))
+  next-split = s.split ∙ ap (λ z. sum +ℤ z) (ap₂ dot_z eu ev) ∙ sym (+ℤ_assoc sum (x *ℤ y) (dot_z us vs))
 
-  turn : Turn xs ys n sum k
+  turn : Turn xs ys n sum x y us vs
   turn = record {
-    term_fits = sfits-abs term (omega (arith, term-small));
-    sum_fits = sfits-abs (sum +ℤ term) (omega (arith, next_small));
-    summed = record { within = omega arith; split = next-split; small = next_small };
+    term_fits = sfits-abs (x *ℤ y) (omega (arith, term-small));
+    sum_fits = sfits-abs (sum +ℤ x *ℤ y) (omega (arith, next-small));
+    summed = record { split = next-split; small = next-small };
   }
 
-finish : {xs ys : List ℤ} {n : ℕ} {sum : ℤ} {k : ℕ} → Summed xs ys n sum k → n ≤ k → n ≡ min (length xs) (min (length ys) max_terms) → sum ≡ dot_z (take max_terms xs) ys
-unfolding dot_z
-finish {xs} {ys} {n} {sum} {k} w h most =
-    sym (dot-terms xs ys n max_terms most ∙ w.split ∙ ap (λ zs. sum +ℤ dot_z zs (drop k ys)) (done xs n k h (omega arith)) ∙ +ℤ_idr sum)
-
 -- in a turn: what was read, and what the turn gives
-module _ (c : goal.After-y-1) where
-  x_fits : SFits w16 (get_or c.args.a.now c.loop-k.k (pos 0))
-  x_fits = sfits_of c.x-1.given
+module _ (c : goal.After-from-in-loop-x) where
+  x_fits : SFits w16 c.in-Some.x.now
+  x_fits = search rules
 
-  y-fits : SFits w16 (get_or c.args.b.now c.loop-k.k (pos 0))
-  y-fits = sfits_of c.y-1.given
+  y-fits : SFits w16 c.in-Some.y.now
+  y-fits = search rules
 
-  gives : Turn c.args.a.now c.args.b.now c.terms-n.result (to_z w64 c.loop-k.sum-bits) c.loop-k.k
-  gives =
-      turn c.loop-k.invariant c.loop-k-test.true c.terms-n.ensures x_fits y-fits
+  gives : Turn c.args.a.now c.args.b.now c.terms-n.result (to_z w64 c.loop-x.sum-bits) c.in-Some.x.now c.in-Some.y.now c.next.new.self.a.rest.now c.next.new.self.b.rest.now
+  gives = let e = c.in-Some.ensures.steps in turn c.loop-x.invariant (omega (arith, c.terms-n.ensures)) e.0 e.1 x_fits y-fits
 
-pub loop-k-init : goal.loop-k-init
-loop-k-init c = start c.args.a.now c.args.b.now c.terms-n.result
+  from-x : to_z w64 (of_z w64 c.from.result) ≡ c.in-Some.x.now
+  from-x = let e = c.from.ensures ∙ to_z-of_z x_fits in rw e (read-16-64 x_fits)
 
-pub overflow_cast-sum : goal.overflow_cast-sum
-overflow_cast-sum c = rw (to_z-of_z (x_fits c)) (to64 (x_fits c))
+  from-y : to_z w64 (of_z w64 c.from-in-loop-x.result) ≡ c.in-Some.y.now
+  from-y = let e = c.from-in-loop-x.ensures ∙ to_z-of_z y-fits in rw e (read-16-64 y-fits)
 
-pub overflow_cast-sum-in-loop-k : goal.overflow_cast-sum-in-loop-k
-overflow_cast-sum-in-loop-k c = rw (to_z-of_z (y-fits c)) (to64 (y-fits c))
+pub loop-x-init : goal.loop-x-init
+loop-x-init c = start c.args.a.now c.args.b.now c.into_iter-x-iterator.result.a.rest.now c.into_iter-x-iterator.result.b.rest.now c.terms-n.result (search rules) (search rules)
 
 pub overflow_mul-sum : goal.overflow_mul-sum
-overflow_mul-sum c =
-    rw (to_z-of_z (x_fits c), to_z-of_z (y-fits c), read-16-64 (x_fits c), read-16-64 (y-fits c)) (gives c).term_fits
+overflow_mul-sum c = rw (from-x c, from-y c) (gives c).term_fits
 
 pub overflow_add-sum : goal.overflow_add-sum
-overflow_add-sum c =
-    rw (to_z-of_z (x_fits c), to_z-of_z (y-fits c), read-16-64 (x_fits c), read-16-64 (y-fits c), to_z-of_z (gives c).term_fits)
-    (gives c).sum_fits
+overflow_add-sum c = rw (from-x c, from-y c, to_z-of_z (gives c).term_fits) (gives c).sum_fits
 
-pub loop-k-preserved : goal.loop-k-preserved
-loop-k-preserved c =
-    rw (to_z-of_z (x_fits c), to_z-of_z (y-fits c), read-16-64 (x_fits c), read-16-64 (y-fits c), to_z-of_z (gives c).term_fits, to_z-of_z (gives c).sum_fits)
-    (gives c).summed
+pub loop-x-preserved : goal.loop-x-preserved
+loop-x-preserved c = rw (from-x c, from-y c, to_z-of_z (gives c).term_fits, to_z-of_z (gives c).sum_fits) (gives c).summed
+
+-- where either list ends, nothing is left to add
+none : (us vs : List ℤ) → (length us ≡ 0) ⊎ (length vs ≡ 0) → dot_z us vs ≡ pos 0
+unfolding dot_z
+none us vs (inl h) = rw (nil_from_length us h)
+none us vs (inr h) = rw (nil_from_length vs h) (dot-nil us)
+
+finish : {xs ys us vs : List ℤ} {n : ℕ} {sum : ℤ} → Summed xs ys n sum us vs → dot_z us vs ≡ pos 0 → n ≡ min (length xs) (min (length ys) max_terms) → sum ≡ dot_z (take max_terms xs) ys
+finish {xs} {ys} {us} {vs} {n} {sum} s e most =
+    sym (dot-terms xs ys n max_terms most ∙ s.split ∙ ap (λ z. sum +ℤ z) e ∙ +ℤ_idr sum)
 
 pub returns : goal.returns
-returns c = finish c.loop-k.invariant c.loop-k-test.false c.terms-n.ensures
+returns c =
+    let ended : (length c.loop-x.x-iterator.a.rest.now ≡ 0) ⊎ (length c.loop-x.x-iterator.b.rest.now ≡ 0) = elim c.in-None.ensures.steps [ inl w ↦ inl w.1.0 | inr w ↦ inr w.1.0 ] in
+    finish c.loop-x.invariant (none c.loop-x.x-iterator.a.rest.now c.loop-x.x-iterator.b.rest.now ended) c.terms-n.ensures

@@ -1,20 +1,16 @@
--- `num::dot_i16` meets its contract: the sum so far and that of the rest make the whole. Assumes nothing.
+-- `num::dot_i16` meets its contract: the sum so far and that of what is left make the whole. Assumes nothing.
 use mathlib.Core.Path.{◌≡◌}
 use mathlib.Core.List.{List}
-use Prim.Native.Nat.{ℕ, ◌-◌, ◌*◌, ◌^◌, ◌≤◌}
+use Prim.Native.Nat.{ℕ, ◌+◌, ◌*◌, ◌^◌, ◌≤◌}
 use lib.IntN.{ℤ, nat_abs, ◌+ℤ◌}
-use lib.ListN.{take, drop}
+use lib.ListN.{length, take}
 use Rattle.num.specs.Sum.{dot_z}
 use Rattle.num.proofs.dot_i16.Given as goal
 
--- the products of the first k elements are summed up, of n
-pub record Summed (xs ys : List ℤ) (n : ℕ) (sum : ℤ) (k : ℕ) : Type 0 where
-  pub within : k ≤ n
-  pub split : dot_z (take n xs) ys ≡ sum +ℤ dot_z (drop k (take n xs)) (drop k ys)
-  pub small : nat_abs sum ≤ 2 ^ 30 * k
+-- of n products, those of the elements in front of `us` and `vs` are summed up
+pub record Summed (xs ys : List ℤ) (n : ℕ) (sum : ℤ) (us vs : List ℤ) : Type 0 where
+  pub split : dot_z (take n xs) ys ≡ sum +ℤ dot_z us vs
+  pub small : nat_abs sum + 2 ^ 30 * length us ≤ 2 ^ 30 * n
 
-abbrev pub invariant-loop-k : goal.invariant-loop-k
-invariant-loop-k l = Summed l.a l.b l.n l.sum l.k
-
-abbrev pub decreases-loop-k : goal.decreases-loop-k
-decreases-loop-k l = l.n - l.k
+abbrev pub invariant-loop-x : goal.invariant-loop-x
+invariant-loop-x l = Summed l.a l.b l.n l.sum l.x-iterator.a.rest.now l.x-iterator.b.rest.now

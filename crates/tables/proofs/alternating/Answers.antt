@@ -19,30 +19,15 @@ pub loop-k-init : goal.loop-k-init
 unfolding alternating
 loop-k-init c = (omega arith, refl, omega arith)
 
-pub overflow_sub-k : goal.overflow_sub-k
-overflow_sub-k c = omega arith
-
-pub sine_term-requires : goal.sine_term-requires
-sine_term-requires c = omega (arith, c.loop-k.invariant.0)
-
 pub less-x-requires : goal.less-x-requires
 less-x-requires c =
     let k = c.loop-k.k in let (h, _, small) = c.loop-k.invariant in
-    (c.requires, omega (arith, terms-fall k h, small, c.sine_term.ensures), omega (arith, first-most (k - 1) (omega arith), c.sine_term.ensures))
-
-pub loop-k-smaller : goal.loop-k-smaller
-loop-k-smaller c = omega arith
+    (c.requires, omega (arith, terms-fall k h, small), omega (arith, first-most (k - 1) (omega arith)))
 
 pub loop-k-preserved : goal.loop-k-preserved
 loop-k-preserved c =
     let (h, e, _) = c.loop-k.invariant in (
       omega arith,
-      c.less-x.ensures.0 ∙ rw (c.sine_term.ensures, e) (more c.args.s c.args.q c.loop-k.k (c.loop-k.k - 1) (omega arith) h),
-      omega (arith, c.less-x.ensures.1, c.sine_term.ensures),
+      c.less-x.ensures.0 ∙ rw e (more c.args.s c.args.q c.loop-k.k (c.loop-k.k - 1) (omega arith) h),
+      omega (arith, c.less-x.ensures.1),
     )
-
-pub returns : goal.returns
-returns c =
-    let (_, e, small) = c.loop-k.invariant in
-    let none : c.loop-k.k ≡ 0 = omega arith in
-    (rw none at e, rw none at small)

@@ -7,6 +7,3 @@ use Rattle.tables.proofs.alternating.Given as goal
 
 abbrev pub invariant-loop-k : goal.invariant-loop-k
 invariant-loop-k l = (l.k ≤ length sine_terms) × (l.x ≡ alternating l.s l.q (drop l.k sine_terms)) × (l.x ≤ get_or sine_terms l.k 0)
-
-abbrev pub decreases-loop-k : goal.decreases-loop-k
-decreases-loop-k l = l.k

@@ -17,22 +17,7 @@ pub loop-k-init : goal.loop-k-init
 unfolding euler
 loop-k-init c = (omega arith, refl, omega arith)
 
-pub deeper-x-requires : goal.deeper-x-requires
-deeper-x-requires c = let (h, _, small) = c.loop-k.invariant in (c.requires, h, small)
-
-pub overflow_sub-k : goal.overflow_sub-k
-overflow_sub-k c = omega arith
-
-pub loop-k-smaller : goal.loop-k-smaller
-loop-k-smaller c = omega arith
-
 pub loop-k-preserved : goal.loop-k-preserved
 loop-k-preserved c =
     let (h, e, _) = c.loop-k.invariant in
     (omega arith, c.deeper-x.ensures.0 ∙ more c.args.s c.args.q c.loop-k.k c.loop-k.x c.loop-k-test.true h e, c.deeper-x.ensures.1)
-
-pub returns : goal.returns
-returns c =
-    let (_, e, small) = c.loop-k.invariant in
-    let none : c.loop-k.k ≡ 0 = omega arith in
-    (rw none at e, small)

@@ -6,6 +6,3 @@ use Rattle.tables.proofs.euler.Given as goal
 
 abbrev pub invariant-loop-k : goal.invariant-loop-k
 invariant-loop-k l = (l.k ≤ fractions) × (l.x ≡ euler l.s l.q (suc l.k) (fractions - l.k)) × (l.x ≤ 2 * radian)
-
-abbrev pub decreases-loop-k : goal.decreases-loop-k
-decreases-loop-k l = l.k

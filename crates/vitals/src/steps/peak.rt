@@ -1,41 +1,16 @@
 // The first significant peak of the summed correlation, which is held by lag (vitals.rs, `estimate`).
 ghost use Rattle.std.specs.Prelude.{◌≡◌, ◌+◌, ◌-◌, ◌≤◌, ◌<◌, length, nat_abs};
-ghost use Rattle.std.specs.Int.Signed.{le_z};
-ghost use Rattle.vitals.specs.Series.{at};
 ghost use Rattle.vitals.specs.Peak as spec;
 ghost use Rattle.vitals.specs.Peak.{is_peak, peak_or, floor_of, best_lag};
 ghost use Rattle.vitals.specs.Steps.{most_summed, Within};
-
-// Whether the value at `k` is at least `y`.
-fn reaches(summed: &[i32], k: usize, y: i32) -> bool
-    requires { k < length summed.now }
-    ensures { result ≡ le_z y (at summed.now k) }
-{
-    summed[k] >= y
-}
-
-// Whether the value at `k` is at least that at `j`.
-fn not_below(summed: &[i32], k: usize, j: usize) -> bool
-    requires { (k < length summed.now) × (j < length summed.now) }
-    ensures { result ≡ le_z (at summed.now j) (at summed.now k) }
-{
-    summed[k] >= summed[j]
-}
 
 // Whether the value at `lag` reaches the floor and both its neighbours.
 fn is_peak(summed: &[i32], lag: usize, floor: i32) -> bool
     requires { (1 ≤ lag) × (lag + 1 < length summed.now) }
     ensures { result ≡ is_peak summed.now floor lag }
 {
-    if reaches(summed, lag, floor) {
-        if not_below(summed, lag, lag - 1) {
-            not_below(summed, lag, lag + 1)
-        } else {
-            false
-        }
-    } else {
-        false
-    }
+    let value = summed[lag];
+    floor <= value && summed[lag - 1] <= value && summed[lag + 1] <= value
 }
 
 // The lag from 2 to `hi` of the highest value, the lowest such lag.
@@ -43,11 +18,9 @@ fn highest(summed: &[i32], hi: usize) -> usize
     requires { (2 ≤ hi) × (hi < length summed.now) }
     ensures { (result ≡ spec.highest summed.now (hi - 2)) × (2 ≤ result) × (result ≤ hi) }
 {
-    let mut best: usize = 2;
-    let mut lag: usize = 2;
-    while lag < hi {
-        lag = lag + 1;
-        if not_below(summed, best, lag) {} else {
+    let mut best = 2;
+    for lag in 3..hi + 1 {
+        if summed[best] < summed[lag] {
             best = lag;
         }
     }

@@ -1,23 +1,11 @@
 // The parabola through a peak, the rate, and how sure it is (vitals.rs, `estimate`).
-ghost use Rattle.std.specs.Prelude.{◌≡◌, ◌+◌, ◌-◌, ◌*◌, ◌≤◌, ◌<◌, pos, negsuc, nat_abs, ◌-ℤ◌, ◌*ℤ◌};
+ghost use Rattle.std.specs.Prelude.{◌≡◌, ◌+◌, ◌-◌, ◌*◌, ◌≤◌, ◌<◌, pos, nat_abs, ◌-ℤ◌, ◌*ℤ◌};
 ghost use Rattle.std.specs.Int.Signed.{quot_z};
-ghost use Rattle.num.specs.Clamp.{clamp_z};
 ghost use Rattle.num.specs.Limits.{max_subcarriers};
 ghost use Rattle.vitals.specs.Rate.{bend, vertex, bpm_of, confidence_of, refined, accepted_at};
 ghost use Rattle.vitals.specs.Steps.{most_summed};
 
-// Between -8 and 8.
-fn clamp_8(z: i32) -> i32
-    ensures { result ≡ clamp_z (negsuc 7) (pos 8) z }
-{
-    if z < -8 {
-        return -8;
-    }
-    if z > 8 {
-        return 8;
-    }
-    z
-}
+use crate::band::Lags;
 
 // How the curve through three values bends.
 fn bend_of(a: i32, b: i32, c: i32) -> i32
@@ -41,7 +29,7 @@ pub fn delta_x16(a: i32, b: i32, c: i32) -> i32
     ensures { (result ≡ vertex a b c) × (nat_abs result ≤ 8) }
 {
     let d = bend_of(a, b, c);
-    if d < 0 { clamp_8(lean(a, c, d)) } else { 0 }
+    if d < 0 { lean(a, c, d).clamp(-8, 8) } else { 0 }
 }
 
 // The lag in sixteenths, moved to the top of the parabola.
@@ -49,11 +37,7 @@ pub fn refined_lag(best: usize, delta: i32) -> u32
     requires { (best ≤ 127) × (nat_abs delta ≤ 8) }
     ensures { (result ≡ refined best delta) × (16 ≤ result) × (result ≤ 2048) }
 {
-    let lag = (best as i32) * 16 + delta;
-    if lag < 16 {
-        return 16;
-    }
-    lag as u32
+    ((best as i32) * 16 + delta).max(16) as u32
 }
 
 // Ten times the rate per minute.
@@ -61,8 +45,7 @@ pub fn bpm_x10(rate: u32, lag_x16: u32) -> u16
     requires { (rate ≤ 1000) × (1 ≤ lag_x16) × (lag_x16 ≤ 65536) }
     ensures { result ≡ bpm_of rate lag_x16 }
 {
-    let x = (9600 * rate + lag_x16 / 2) / lag_x16;
-    if x < 65535 { x as u16 } else { 65535 }
+    ((9600 * rate + lag_x16 / 2) / lag_x16).min(65535) as u16
 }
 
 // The peak's height for each column that was used, in permille.
@@ -70,25 +53,12 @@ pub fn confidence_of(peak: i32, used: usize) -> u16
     requires { (nat_abs peak ≤ most_summed) × (1 ≤ used) × (used ≤ max_subcarriers) }
     ensures { result ≡ confidence_of peak used }
 {
-    let q = peak / (used as i32);
-    if q < 0 {
-        return 0;
-    }
-    if q > 1000 {
-        return 1000;
-    }
-    q as u16
+    (peak / (used as i32)).clamp(0, 1000) as u16
 }
 
 // Strictly inside the band, and sure enough.
-pub fn is_accepted(lo: usize, hi: usize, best: usize, confidence: u16, accept: u16) -> bool
-    ensures { result ≡ accepted_at lo hi best confidence accept }
+pub fn is_accepted(lags: Lags, best: usize, confidence: u16, accept: u16) -> bool
+    ensures { result ≡ accepted_at lags.lo lags.hi best confidence accept }
 {
-    if lo < best {
-        if best < hi {
-            return accept <= confidence;
-        }
-        return false;
-    }
-    false
+    lags.lo < best && best < lags.hi && accept <= confidence
 }

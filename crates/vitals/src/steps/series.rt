@@ -1,48 +1,21 @@
 // A series of samples: its mean taken off, and its moving average (vitals.rs, `estimate` and `highpass`).
-ghost use Rattle.std.specs.Prelude.{◌≡◌, ◌+◌, ◌-◌, ◌*◌, ◌≤◌, ◌<◌, min, length, pos, nat_abs, ◌+ℤ◌, ◌-ℤ◌};
+ghost use Rattle.std.specs.Prelude.{◌≡◌, ◌+◌, ◌-◌, ◌*◌, ◌≤◌, ◌<◌, min, length, pos, nat_abs, ◌-ℤ◌};
 ghost use Rattle.std.specs.Int.Signed.{quot_z};
 ghost use Rattle.num.specs.Sum.{sum_z};
 ghost use Rattle.vitals.specs.Series.{at, clamp16, mean_of, centred, half_of, highpassed};
-ghost use Rattle.vitals.specs.Steps.{Exact, Samples, Slid, Around};
+ghost use Rattle.vitals.specs.Steps.{Samples, Slid, Around};
 
 use crate::steps::divide::Divisor;
 
 // The most samples of a series.
 pub const MAX_SAMPLES: usize = 512;
 
-// Within the range of an i16.
-fn clamp_i16(z: i32) -> i16
-    ensures { result ≡ clamp16 z }
-{
-    if z < -32768 {
-        return -32768;
-    }
-    if z > 32767 {
-        return 32767;
-    }
-    z as i16
-}
-
-fn plus(sum: i32, v: i16) -> i32
-    requires { nat_abs sum ≤ 1073741824 }
-    ensures { result ≡ sum +ℤ v }
-{
-    sum + (v as i32)
-}
-
-fn less(sum: i32, v: i16) -> i32
-    requires { nat_abs sum ≤ 1073741824 }
-    ensures { result ≡ sum -ℤ v }
-{
-    sum - (v as i32)
-}
-
-// A sample less a mean.
+// A sample less a mean, within the range of an i16.
 fn off(v: i16, mean: i32) -> i16
     requires { nat_abs mean ≤ 1073741824 }
     ensures { result ≡ clamp16 (v -ℤ mean) }
 {
-    clamp_i16((v as i32) - mean)
+    (i32::from(v) - mean).clamp(-32768, 32767) as i16
 }
 
 // The sum of the samples.
@@ -50,9 +23,9 @@ fn sum_of(x: &[i16]) -> i32
     requires { (length x.now ≤ 512) × Samples x.now }
     ensures { result ≡ sum_z x.now }
 {
-    let mut sum: i32 = 0;
-    for i in 0..x.len() {
-        sum = plus(sum, x[i]);
+    let mut sum = 0;
+    for &v in x {
+        sum += i32::from(v);
     }
     sum
 }
@@ -87,26 +60,18 @@ struct Window {
 
 // The mean of a window's samples.
 fn mean_in(sum: i32, d: Divisor) -> i32
-    requires { Exact d × (nat_abs sum ≤ 32768 * d.by) }
+    requires { nat_abs sum ≤ 32768 * d.by }
     ensures { (result ≡ quot_z sum (pos d.by)) × (nat_abs result ≤ 1073741824) }
 {
-    let size = crate::steps::divide::divide(num::unsigned_abs_i32(sum) as u32, d);
+    let size = d.divide(sum.unsigned_abs());
     num::with_sign(sum < 0, size as u16)
-}
-
-// The smaller of two numbers.
-fn smaller(a: usize, b: usize) -> usize
-    ensures { result ≡ min a b }
-{
-    if a < b { a } else { b }
 }
 
 // Half of the window, for a moving average of m of n samples.
 fn half_of(m: usize, n: usize) -> usize
     ensures { result ≡ half_of m n }
 {
-    let k = smaller(m, n) / 2;
-    if k < 1 { 1 } else { k }
+    (m.min(n) / 2).max(1)
 }
 
 // The window of the first sample.
@@ -114,7 +79,7 @@ fn first_window(x: &[i16], half: usize) -> Window
     requires { (length x.now ≤ 512) × Samples x.now × (half ≤ 512) }
     ensures { Around x.now half 0 result }
 {
-    let end = smaller(half + 1, x.len());
+    let end = x.len().min(half + 1);
     let sum = sum_of(&x[0..end]);
     Window {
         sum,
@@ -131,7 +96,7 @@ fn grown(x: &[i16], w: Window) -> Window
     let hi = w.hi;
     if hi < x.len() {
         return Window {
-            sum: plus(w.sum, x[hi]),
+            sum: w.sum + i32::from(x[hi]),
             lo: w.lo,
             hi: hi + 1,
         };
@@ -146,7 +111,7 @@ fn shrunk(x: &[i16], w: Window) -> Window
 {
     let lo = w.lo;
     Window {
-        sum: less(w.sum, x[lo]),
+        sum: w.sum - i32::from(x[lo]),
         lo: lo + 1,
         hi: w.hi,
     }
@@ -166,7 +131,7 @@ fn moved(x: &[i16], w: Window, i: usize, half: usize) -> Window
 
 // Sample i less the mean of its window.
 fn level_at(x: &[i16], i: usize, w: Window, d: Divisor) -> i16
-    requires { (i < length x.now) × Exact d × (nat_abs w.sum ≤ 32768 * d.by) }
+    requires { (i < length x.now) × (nat_abs w.sum ≤ 32768 * d.by) }
     ensures { result ≡ clamp16 (at x.now i -ℤ quot_z w.sum (pos d.by)) }
 {
     off(x[i], mean_in(w.sum, d))
@@ -180,12 +145,10 @@ pub fn highpass(x: &[i16], out: &mut [i16], m: usize)
     let n = x.len();
     let half = half_of(m, n);
     let mut w = first_window(x, half);
-    let mut d = crate::steps::divide::divisor_by(1);
-    let mut i: usize = 0;
-    while i < n {
-        d = crate::steps::divide::divisor_for(d, (w.hi - w.lo) as u32);
+    let mut d = Divisor::new(1);
+    for i in 0..n {
+        d = d.or_by((w.hi - w.lo) as u32);
         out[i] = level_at(x, i, w, d);
         w = moved(x, w, i, half);
-        i = i + 1;
     }
 }

@@ -4,4 +4,4 @@ use Rattle.csi.proofs.Entries.{length-entries}
 use Rattle.csi.proofs.Layout.count.Goals as goal
 
 pub returns : goal.returns
-returns c = omega (arith, length-entries c.args.self, c.span.ensures.0, c.span-2.ensures.0)
+returns c = omega (arith, length-entries c.args.self)

@@ -1,52 +1,42 @@
 -- `csi::moments::picked` meets its contract. Assumes nothing.
-use mathlib.Core.Path.{◌≡◌, ap, sym, ◌∙◌}
-use mathlib.Core.List.{map}
-use Prim.Native.Nat.{ℕ, ◌≤◌, ◌<◌}
+use mathlib.Core.Path.{◌≡◌, sym, ◌∙◌}
+use mathlib.Core.List.{List, ◌++◌, map}
+use Prim.Native.Nat.{ℕ, ◌+◌, ◌-◌, ◌≤◌}
 use native.Mathlib.Omega.{arith}
-use lib.ListN.{length, get_or, length-map}
-use Rattle.num.proofs.Row.{none_filled, turn, finish}
+use borrow.Author.Rules.{rules}
+use lib.ListN.{length, get_or, take, drop, replicate, length-map, length-append}
+use Rattle.num.proofs.Parts.{part-long}
 use Rattle.csi.specs.Layout.{max_subcarriers, entries_of, Usable}
 use Rattle.csi.specs.declared.Layout.{Layout}
-use Rattle.csi.proofs.Entries.{inside}
+use Rattle.csi.proofs.Entries.{length-entries, parts}
 use Rattle.csi.proofs.Padded.{described-is}
-use Rattle.csi.proofs.moments.picked.Invariants.{at}
 use Rattle.csi.proofs.moments.picked.Goals as goal
 
--- an entry is in the array
-there : (l : Layout) → Usable l → (k : ℕ) → k < length (entries_of l) → (i : ℕ) → i ≡ get_or (entries_of l) k 0 → i < max_subcarriers
-there l u k h i e = omega (arith, e, inside l u k h, u.entries)
+module _ (xs : List ℕ) (l : Layout) (u : Usable l) (long : length xs ≡ max_subcarriers) where
+  abbrev first : List ℕ
+  first = take (l.end - l.start) (drop l.start xs)
 
-pub loop-k-init : goal.loop-k-init
-loop-k-init c = none_filled 65535 max_subcarriers (at c.args.every.now) (entries_of c.args.layout)
+  abbrev second : List ℕ
+  second = take (l.end2 - l.start2) (drop l.start2 xs)
 
-pub entry-i-requires : goal.entry-i-requires
-entry-i-requires c = omega (arith, c.loop-k-test.true, c.count-n.ensures)
+  fits : length first + length second ≤ max_subcarriers
+  fits =
+      omega (arith, part-long l.start (l.end - l.start) xs (omega (arith, u.up, u.end, u.entries)), part-long l.start2 (l.end2 - l.start2) xs (omega (arith, u.up2, u.end2, u.entries)), length-entries l, u.most)
 
-pub offset_bounds-every-i : goal.offset_bounds-every-i
-offset_bounds-every-i c = omega (arith, there c.args.layout c.requires.0 c.loop-k.k (omega (arith, c.loop-k-test.true, c.count-n.ensures)) c.entry-i.result c.entry-i.ensures)
+  are : (a : List ℕ) → a ≡ (first ++ second) ++ replicate (max_subcarriers - (length first + length second)) 0
+      → let ys = map (λ k. get_or xs k 0) (entries_of l) in a ≡ ys ++ replicate (max_subcarriers - length ys) 0
+  are a e = e ∙ rw (parts l xs u (omega (arith, u.entries)), length-append)
 
-pub bounds-every-i : goal.bounds-every-i
-bounds-every-i c = omega (arith, there c.args.layout c.requires.0 c.loop-k.k (omega (arith, c.loop-k-test.true, c.count-n.ensures)) c.entry-i.result c.entry-i.ensures, c.requires.1)
-
-pub bounds-amplitude-k : goal.bounds-amplitude-k
-bounds-amplitude-k c = omega (arith, c.count-n.ensures, c.requires.0.most, c.loop-k-test.true, c.loop-k.invariant.long)
-
-pub overflow_add-sum : goal.overflow_add-sum
-overflow_add-sum c = omega (arith, c.count-n.ensures, c.requires.0.most, c.loop-k-test.true, c.loop-k.invariant.small, c.wide-a.ensures.1)
-
-pub loop-k-preserved : goal.loop-k-preserved
-loop-k-preserved c =
-    turn c.loop-k.invariant c.wide-a.result (c.wide-a.ensures.0 ∙ ap (at c.args.every.now) c.entry-i.ensures)
-    c.wide-a.ensures.1 (omega (arith, c.loop-k-test.true, c.count-n.ensures)) c.requires.0.most
-
-pub described-requires : goal.described-requires
-described-requires c =
-    let e : c.count-n.result ≡ c.loop-k.k = omega (arith, c.loop-k-test.false, c.count-n.ensures, c.loop-k.invariant.within) in
-    (omega (arith, c.count-n.ensures, c.requires.0.some), omega (arith, c.count-n.ensures, c.requires.0.most), rw e c.loop-k.invariant.summed, rw e c.loop-k.invariant.small)
+pub joined-requires : goal.joined-requires
+joined-requires c =
+    let array : length c.args.every.now ≡ max_subcarriers = search rules in
+    rw (c.from.ensures, c.from-2.ensures, c.from-3.ensures, c.from-4.ensures) (fits c.args.every.now c.args.layout c.requires array)
 
 pub returns : goal.returns
 returns c =
-    let ended : length (entries_of c.args.layout) ≤ c.loop-k.k = omega (arith, c.loop-k-test.false, c.count-n.ensures) in let f = at c.args.every.now in let xs = entries_of c.args.layout in
+    let xs = c.args.every.now in let l = c.args.layout in
+    let array : length xs ≡ max_subcarriers = search rules in
+    let j = rw (c.from.ensures, c.from-2.ensures, c.from-3.ensures, c.from-4.ensures) at c.joined.ensures in
+    let f : ℕ → ℕ = λ k. get_or xs k 0 in
     c.described.ensures
-    ∙ described-is c.loop-k.amplitude (map f xs) c.count-n.result
-    (c.count-n.ensures ∙ sym (length-map xs f)) (rw (length-map xs f) (finish c.loop-k.invariant ended))
+    ∙ described-is c.joined.result (map f (entries_of l)) c.count.result (c.count.ensures ∙ sym (length-map (entries_of l) f)) (are xs l c.requires array c.joined.result j)

@@ -1,59 +1,46 @@
 -- `csi::normal::divided` meets its contract. Assumes nothing.
-use mathlib.Core.Path.{◌≡◌, ap, sym, subst, ◌∙◌}
+use mathlib.Core.Path.{◌≡◌, sym, ap, ◌∙◌}
 use mathlib.Core.List.{List, map}
 use Prim.Native.Nat.{ℕ, ◌*◌, ◌/◌, ◌^◌, min, ◌≤◌, ◌<◌}
 use native.Mathlib.Omega.{arith}
-use lib.ListN.{get_or, take, length-map}
-use lib.Seq.{length-take-le, get_or-take}
-use Rattle.num.proofs.Map.{element-le}
-use Rattle.num.proofs.Row.{none_filled, turn, finish}
+use lib.ListN.{length, get_or, length-map}
 use Rattle.num.specs.Sum.{total}
+use Rattle.num.proofs.Map.{element-le}
+use Rattle.num.proofs.Sum.{total-le}
 use Rattle.csi.specs.Features.{scale}
 use Rattle.csi.specs.Layout.{max_subcarriers}
-use Rattle.csi.proofs.Padded.{described-is}
-use Rattle.csi.proofs.Scaled.{product-fits, whole_part}
+use Rattle.csi.proofs.Padded.{described-is, padded-next, padded-all}
+use Rattle.csi.proofs.Scaled.{factor, product-fits, whole_part}
 use Rattle.csi.proofs.normal.divided.Goals as goal
 
--- the amplitude of a turn: one of the first n, so at most their sum
-part : (xs : List ℕ) (k v sum : ℕ) → v ≡ get_or xs k 0 → sum ≡ total xs → v ≤ sum
-part xs k v sum e t = omega (arith, e, element-le xs k, t)
+-- one of the amplitudes
+module _ (xs : List ℕ) (t k : ℕ) (few : length xs ≤ max_subcarriers) (some : 1 ≤ t) (et : t ≡ total xs) (fit : (i : ℕ) → get_or xs i 0 ≤ 65535) where
+  part : get_or xs k 0 ≤ t
+  part = omega (arith, element-le xs k, et)
 
-pub loop-k-init : goal.loop-k-init
-loop-k-init c = none_filled 65535 max_subcarriers (scale c.args.n c.args.sum) (take c.args.n c.args.amplitude.now)
+  fits : get_or xs k 0 * factor (length xs) t < 2 ^ 64
+  fits = product-fits (length xs) t (get_or xs k 0) few some part (fit k)
 
-pub scaled-v-requires : goal.scaled-v-requires
-scaled-v-requires c =
-    let xs = take c.args.n c.args.amplitude.now in
-    let nth = c.wide.ensures.0 ∙ sym (get_or-take c.args.n c.args.amplitude.now c.loop-k.k 0 c.loop-k-test.true) in
-    subst (λ (m : ℕ). c.wide.result * m < 2 ^ 64) (sym c.ratio-factor.ensures)
-    (product-fits c.args.n c.args.sum c.wide.result c.requires.1 c.requires.2 (part xs c.loop-k.k c.wide.result c.args.sum nth c.requires.4) c.wide.ensures.1)
+  gives : min 65535 (get_or xs k 0 * factor (length xs) t / 2 ^ 40) ≡ scale (length xs) t (get_or xs k 0)
+  gives = whole_part (length xs) t (get_or xs k 0) few some part (fit k) (omega (arith, total-le 65535 xs (λ i h. fit i)))
 
-pub overflow_add-scaled_sum : goal.overflow_add-scaled_sum
-overflow_add-scaled_sum c = omega (arith, c.loop-k.invariant.small, c.scaled-v.ensures.1)
+pub scaled-requires : goal.scaled-requires
+scaled-requires c =
+    let xs = c.args.amplitudes.now in
+    let e : c.ratio-factor.result ≡ factor (length xs) c.args.sum = c.ratio-factor.ensures ∙ ap (factor (length xs)) c.from.ensures in
+    rw e (fits xs c.args.sum c.loop-k.k c.requires.1 c.requires.2 c.requires.3 (λ i. omega (arith, c.type_inv.amplitudes i)))
 
 pub loop-k-preserved : goal.loop-k-preserved
 loop-k-preserved c =
-    let xs = take c.args.n c.args.amplitude.now in let v = c.wide.result in
-    let count = length-take-le c.args.n c.args.amplitude.now (omega arith) in
-    let nth = c.wide.ensures.0 ∙ sym (get_or-take c.args.n c.args.amplitude.now c.loop-k.k 0 c.loop-k-test.true) in
-    turn c.loop-k.invariant c.scaled-v.result
-    (c.scaled-v.ensures.0
-    ∙ ap (λ (m : ℕ). min 65535 (v * m / 2 ^ 40)) c.ratio-factor.ensures
-    ∙ whole_part c.args.n c.args.sum v c.requires.1 c.requires.2 (part xs c.loop-k.k v c.args.sum nth c.requires.4) c.wide.ensures.1 c.requires.3
-    ∙ ap (scale c.args.n c.args.sum) nth)
-    c.scaled-v.ensures.1 (omega (arith, count, c.loop-k-test.true)) (omega (arith, count, c.requires.1))
-
-pub described-requires : goal.described-requires
-described-requires c =
-    let count = length-take-le c.args.n c.args.amplitude.now (omega arith) in
-    let e : c.args.n ≡ c.loop-k.k = omega (arith, count, c.loop-k.invariant.within, c.loop-k-test.false) in
-    (c.requires.0, c.requires.1, rw e c.loop-k.invariant.summed, rw e c.loop-k.invariant.small)
+    let xs = c.args.amplitudes.now in let k = c.loop-k.k in
+    let e : c.ratio-factor.result ≡ factor (length xs) c.args.sum = c.ratio-factor.ensures ∙ ap (factor (length xs)) c.from.ensures in
+    padded-next (scale (length xs) c.args.sum) xs c.loop-k.out max_subcarriers k c.scaled.result c.loop-k-test.true c.requires.1
+    (c.scaled.ensures ∙ rw e (gives xs c.args.sum k c.requires.1 c.requires.2 c.requires.3 (λ i. omega (arith, c.type_inv.amplitudes i))))
+    c.loop-k.invariant
 
 pub returns : goal.returns
 returns c =
-    let w = c.loop-k.invariant in let f = scale c.args.n c.args.sum in
-    let xs = take c.args.n c.args.amplitude.now in
-    let count = length-take-le c.args.n c.args.amplitude.now (omega arith) in
+    let xs = c.args.amplitudes.now in let f = scale (length xs) c.args.sum in
     c.described.ensures
-    ∙ described-is c.loop-k.out (map f xs) c.args.n
-    (sym (length-map xs f ∙ count)) (rw (length-map xs f) (finish w (omega (arith, count, w.within, c.loop-k-test.false))))
+    ∙ described-is c.loop-k.out (map f xs) (length xs) (sym (length-map xs f))
+    (padded-all f xs c.loop-k.out max_subcarriers c.loop-k.k (omega arith) (omega arith) c.loop-k.invariant)

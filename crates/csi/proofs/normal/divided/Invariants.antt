@@ -1,13 +1,12 @@
 -- `csi::normal::divided` meets its contract. Assumes nothing.
+use mathlib.Core.Path.{◌≡◌}
+use mathlib.Core.List.{map, ◌++◌}
 use Prim.Native.Nat.{◌-◌}
-use lib.ListN.{take}
-use Rattle.num.proofs.Row.{Filled}
+use lib.ListN.{take, replicate}
 use Rattle.csi.specs.Features.{scale}
 use Rattle.csi.specs.Layout.{max_subcarriers}
 use Rattle.csi.proofs.normal.divided.Given as goal
 
+-- the first k are divided, and 0 stands behind them
 abbrev pub invariant-loop-k : goal.invariant-loop-k
-invariant-loop-k l = Filled 65535 max_subcarriers (scale l.n l.sum) (take l.n l.amplitude) l.out l.scaled_sum l.k
-
-abbrev pub decreases-loop-k : goal.decreases-loop-k
-decreases-loop-k l = l.n - l.k
+invariant-loop-k l = l.out ≡ map (scale l.n l.sum) (take l.k l.amplitudes) ++ replicate (max_subcarriers - l.k) 0

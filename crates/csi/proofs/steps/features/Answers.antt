@@ -3,7 +3,6 @@ use mathlib.Core.Path.{◌≡◌, sym, ap, subst, ◌∙◌}
 use mathlib.Core.List.{List, map}
 use Prim.Native.Nat.{ℕ, ◌≤◌}
 use native.Mathlib.Omega.{arith}
-use borrow.Author.Rules.{rules}
 use lib.ListN.{length, get_or}
 use Rattle.num.proofs.Map.{map-agree}
 use Rattle.csi.specs.Features.{amplitude_at, describe, features_of}
@@ -25,15 +24,18 @@ pub layout_of-layout-requires : goal.layout_of-layout-requires
 layout_of-layout-requires c = (served (length c.args.iq.now) c.args.tag c.requires).0
 
 pub every-every-requires : goal.every-every-requires
-every-every-requires c = ((use-it c.args.iq.now c.args.tag c.requires c.layout_of-layout.result c.layout_of-layout.ensures).entries, enough c.args.iq.now c.args.tag c.requires c.layout_of-layout.result c.layout_of-layout.ensures)
+every-every-requires c =
+    let u = use-it c.args.iq.now c.args.tag c.requires c.layout_of-layout.result c.layout_of-layout.ensures in
+    let e = enough c.args.iq.now c.args.tag c.requires c.layout_of-layout.result c.layout_of-layout.ensures in
+    (omega (arith, u.entries), omega (arith, e))
 
 pub picked-requires : goal.picked-requires
-picked-requires c = (use-it c.args.iq.now c.args.tag c.requires c.layout_of-layout.result c.layout_of-layout.ensures, search rules)
+picked-requires c = use-it c.args.iq.now c.args.tag c.requires c.layout_of-layout.result c.layout_of-layout.ensures
 
 pub returns : goal.returns
 unfolding features_of
 returns c =
     let l = c.layout_of-layout.result in let iq = c.args.iq.now in let f = amplitude_at iq in
     c.picked.ensures
-    ∙ ap describe (map-agree (λ k. get_or c.every-every.result k 0) f (entries_of l) (λ k h. c.every-every.ensures (get_or (entries_of l) k 0) (inside l (use-it iq c.args.tag c.requires l c.layout_of-layout.ensures) k h)))
+    ∙ ap describe (map-agree (λ k. get_or c.every-every.result k 0) f (entries_of l) (λ k h. c.every-every.ensures (get_or (entries_of l) k 0) (omega (arith, inside l (use-it iq c.args.tag c.requires l c.layout_of-layout.ensures) k h))))
     ∙ ap (λ m. describe (map f (entries_of m))) c.layout_of-layout.ensures

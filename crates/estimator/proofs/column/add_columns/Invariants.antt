@@ -2,15 +2,14 @@
 use mathlib.Core.Path.{◌≡◌}
 use Prim.Native.Nat.{◌+◌, ◌-◌, ◌≤◌}
 use lib.ListN.{length}
-use Rattle.window.specs.Window.{columns, ring_rows, window_of}
-use Rattle.vitals.specs.Steps.{Padded}
+use Rattle.estimator.specs.Steps.{blocks_in}
 use Rattle.estimator.proofs.Summing.{Summing}
 use Rattle.estimator.proofs.column.add_columns.Given as goal
 
 abbrev pub invariant-loop-sc : goal.invariant-loop-sc
 invariant-loop-sc l =
-    (l.sc ≤ l.count) × (length l.summed ≡ l.hi + 2) × Padded l.n l.a × Padded l.n l.b ×
-    Summing l.m (window_of l.next l.n l.count (ring_rows l.n columns l.rows)) l.hi l.sc l.used l.summed
+    (l.sc ≤ l.view.count) × (length l.summed ≡ l.hi + 2) × (length l.a ≡ l.view.n) × (length l.b ≡ l.view.n) ×
+    Summing l.m (blocks_in l.view) l.hi l.sc l.used l.summed
 
 abbrev pub decreases-loop-sc : goal.decreases-loop-sc
-decreases-loop-sc l = l.count - l.sc
+decreases-loop-sc l = l.view.count - l.sc

@@ -23,7 +23,9 @@ round n next sc bytes x y z h one two k l (no g) =
     let f : 0 + j ≡ next + k - n = omega arith in
     ap (at z) e ∙ two.entries j (omega arith) ∙ ap (λ (slot : ℕ). entry_of bytes slot sc) (f ∙ sym (turn-high (next + k) n (omega arith)))
 
-pub returns : goal.returns
-returns c =
-    let one = c.read_slots.ensures in let two = c.read_slots-2.ensures in column-read c.args.n c.args.next c.args.count c.args.rows.now c.requires.2 c.args.sc c.requires.4 c.requires.5 _ (c.read_slots-2.ensures.long ∙ c.read_slots.ensures.long ∙ c.requires.3)
-    (λ k h. round c.args.n c.args.next c.args.sc c.args.rows.now _ _ _ (omega (arith, c.requires.2)) one two k h (dec_lt (c.args.next + k) c.args.n))
+pub returns-clause-column : goal.returns-clause-column
+returns-clause-column c =
+    let v = c.args.view in
+    let one = c.read_slots.ensures in let two = c.read_slots-2.ensures in
+    column-read v.n v.next v.count v.rows.now v.inside c.args.sc c.requires.1 v.narrow _ (two.long ∙ one.long ∙ c.requires.0)
+    (λ k h. round v.n v.next c.args.sc v.rows.now _ _ _ (omega (arith, v.inside)) one two k h (dec_lt (v.next + k) v.n))

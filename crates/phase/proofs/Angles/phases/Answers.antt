@@ -1,17 +1,18 @@
 -- `phase::Angles::phases` meets its contract. Assumes nothing.
-use mathlib.Core.Path.{◌∙◌}
-use native.Mathlib.Omega.{arith}
-use borrow.Author.Rules.{rules}
-use Rattle.phase.proofs.Answers.{few, many, enough}
+use mathlib.Core.Path.{ap, ◌∙◌}
+use Rattle.std.proofs.Common.{rules}
+use Rattle.refusal.specs.Refusal.{answered_number}
+use Rattle.phase.proofs.Answers.{outside, enough, angles-number}
 use Rattle.phase.proofs.Angles.phases.Goals as goal
 
-pub returns-then-n-lt-MIN_POINTS : goal.returns-then-n-lt-MIN_POINTS
-returns-then-n-lt-MIN_POINTS c = c.refuse.ensures ∙ few c.args.self (omega (arith, c.if-n-lt-MIN_POINTS.true))
+pub returns-then-not-contains-clause-answer : goal.returns-then-not-contains-clause-answer
+returns-then-not-contains-clause-answer c = outside c.args.self (λ l h. search rules)
 
-pub returns-then-n-gt-MAX_SUBCARRIERS : goal.returns-then-n-gt-MAX_SUBCARRIERS
-returns-then-n-gt-MAX_SUBCARRIERS c =
-    c.refuse-then-n-gt-MAX_SUBCARRIERS.ensures ∙ many c.args.self (omega (arith, c.if-n-lt-MIN_POINTS.false)) (omega (arith, c.if-n-gt-MAX_SUBCARRIERS.true))
+pub returns-then-not-contains-clause-number : goal.returns-then-not-contains-clause-number
+returns-then-not-contains-clause-number c = ap answered_number (outside c.args.self (λ l h. search rules)) ∙ angles-number c.args.self
 
-pub returns : goal.returns
-returns c =
-    enough c.args.self c.line_off.result (omega (arith, c.if-n-lt-MIN_POINTS.false)) (omega (arith, c.if-n-gt-MAX_SUBCARRIERS.false)) (search rules) c.line_off.ensures
+pub returns-clause-answer : goal.returns-clause-answer
+returns-clause-answer c = enough c.args.self c.line_off.result (search rules) (search rules) (search rules) (search rules)
+
+pub returns-clause-number : goal.returns-clause-number
+returns-clause-number c = ap answered_number (enough c.args.self c.line_off.result (search rules) (search rules) (search rules) (search rules)) ∙ angles-number c.args.self

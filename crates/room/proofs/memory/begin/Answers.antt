@@ -6,25 +6,22 @@ use native.Mathlib.Omega.{arith}
 use lib.ListN.{length, drop, replicate}
 use Rattle.room_sensing.specs.Settings.{settings_of}
 use Rattle.room_sensing.proofs.Judged.{legal-long, legal-ranges, ranged}
-use Rattle.room_state.proofs.New.{begun-memory, begin-long, fresh-small}
+use Rattle.room_state.proofs.New.{begun-memory, begin-long}
 use Rattle.room.proofs.memory.begin.Goals as goal
-
-pub settings_of-s-requires : goal.settings_of-s-requires
-settings_of-s-requires c = omega (arith, legal-long c.args.settings.now c.requires.0)
-
-pub fresh-state-requires : goal.fresh-state-requires
-fresh-state-requires c = let g = c.args.settings.now in rw c.settings_of-s.ensures (ranged (settings_of g) (legal-ranges g c.requires.0)).window.small
 
 pub put-requires : goal.put-requires
 put-requires c =
-    let g = c.args.settings.now in omega (arith, legal-long g c.requires.0, begin-long g (length c.args.memory.now) c.requires.1, c.clear.auto.rows)
+    let g = c.args.given.now in omega (arith, legal-long g c.requires.given.0, begin-long g (length c.args.memory.now) c.requires.given.1, c.clear.auto.rows)
 
-pub store-requires : goal.store-requires
-store-requires c =
-    let g = c.args.settings.now in record { header_len_in_bounds = omega (arith, begin-long g (length c.args.memory.now) c.requires.1, c.clear.auto.rows, c.put.auto.dst); small = rw c.fresh-state.ensures (fresh-small c.settings_of-s.result.w) }
+pub fresh-requires : goal.fresh-requires
+fresh-requires c = let g = c.args.given.now in rw c.requires.w_value (ranged (settings_of g) (legal-ranges g c.requires.given.0)).window.small
+
+pub store-requires-clause-header_len_in_bounds : goal.store-requires-clause-header_len_in_bounds
+store-requires-clause-header_len_in_bounds c =
+    let g = c.args.given.now in omega (arith, begin-long g (length c.args.memory.now) c.requires.given.1, c.clear.auto.rows, c.put.auto.dst)
 
 pub returns : goal.returns
 returns c =
-    let g = c.args.settings.now in begun-memory g _ _ c.requires.0
-    (c.put.ensures ∙ (λ i. g ++ drop (legal-long g c.requires.0 i) ((c.clear.ensures ∙ ap (λ (n : ℕ). replicate n 0) c.requires.1) i)))
-    (c.store.ensures.m_after ∙ rw (c.fresh-state.ensures, c.settings_of-s.ensures))
+    let g = c.args.given.now in begun-memory g _ _ c.requires.given.0
+    (c.put.ensures ∙ (λ i. g ++ drop (legal-long g c.requires.given.0 i) ((c.clear.ensures ∙ ap (λ (n : ℕ). replicate n 0) c.requires.given.1) i)))
+    (c.store.ensures.m_after ∙ rw (c.fresh.ensures, c.requires.w_value))

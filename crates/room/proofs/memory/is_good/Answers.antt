@@ -11,7 +11,4 @@ use Rattle.room.proofs.memory.is_good.Goals as goal
 pub returns-then-flags_valid : goal.returns-then-flags_valid
 returns-then-flags_valid c =
     rw (sym c.flags_valid.ensures ∙ c.if-flags_valid.true)
-    (c.is_good.ensures ∙ ap (λ (l : List ℕ). is_good c.args.settings c.args.s (rings_of c.args.settings l)) (part-lent header_len c.args.memory.now))
-
-pub returns : goal.returns
-returns c = rw (sym c.flags_valid.ensures ∙ c.if-flags_valid.false)
+    (c.is_good.ensures ∙ ap (λ (l : List ℕ). is_good c.args.settings.now c.args.s.now (rings_of c.args.settings.now l)) (part-lent header_len c.args.memory.now))

@@ -18,21 +18,23 @@ use Rattle.room_memory.proofs.steps.store.Goals as goal
 module _ (c : goal.After-slice_known-3-1) where
   ranged : Ranged c.args.s
   ranged =
+      let angles = c.well_formed.1.0.1.1.1.1.0.1.1.1.0.1.1 in
+      let baseline = c.well_formed.1.0.1.1.1.1.1.1.1.0.1.1 in
       record {
         presence-wander = search rules;
         presence-motion = search rules;
         phase-wander = search rules;
         phase-motion = search rules;
-        baseline-sum = search rules;
+        baseline-sum = search (rules, baseline.0);
         peak = search rules;
         a = search rules;
         b = search rules;
-        sum = λ j. (let e : Fits w32 (get_or c.args.s.presence_sums.sum j 0) = search rules in e.fits);
-        sumsq = λ j. (let e : Fits w64 (get_or c.args.s.presence_sums.sumsq j 0) = search rules in e.fits);
-        cos = λ j. elem-signed {w = w32} c.args.s.phase_sums.cos c.well_formed.1.0.1.1.1.1.1.1.0.1.1.0.0 j (rw (map-id c.args.s.phase_sums.cos) c.well_formed.1.0.1.1.1.1.1.1.0.1.1.0.1.1);
-        sin = λ j. elem-signed {w = w32} c.args.s.phase_sums.sin c.well_formed.1.0.1.1.1.1.1.1.0.1.1.1.0.0 j (rw (map-id c.args.s.phase_sums.sin) c.well_formed.1.0.1.1.1.1.1.1.0.1.1.1.0.1.1);
-        breathing = λ j. (let e : Fits w32 (get_or c.args.s.breathing_acc j 0) = search rules in e.fits);
-        heart = λ j. (let e : Fits w32 (get_or c.args.s.heart_acc j 0) = search rules in e.fits);
+        sum = λ j. (let e : Fits w32 (get_or c.args.s.presence.sums.sum j 0) = search rules in e.fits);
+        sumsq = λ j. (let e : Fits w64 (get_or c.args.s.presence.sums.sumsq j 0) = search rules in e.fits);
+        cos = λ j. elem-signed {w = w32} c.args.s.phase.sums.cos angles.0.0 j (rw (map-id c.args.s.phase.sums.cos) angles.0.1.1);
+        sin = λ j. elem-signed {w = w32} c.args.s.phase.sums.sin angles.1.0.0 j (rw (map-id c.args.s.phase.sums.sin) angles.1.0.1.1);
+        breathing = λ j. (let e : Fits w32 (get_or c.args.s.breathing.acc j 0) = search rules in e.fits);
+        heart = λ j. (let e : Fits w32 (get_or c.args.s.heart.acc j 0) = search rules in e.fits);
       }
 
   full : Full c.args.s
@@ -55,7 +57,7 @@ returns c =
     let m = c.args.m.now in let s = c.args.s in let f₀ = front-start settings_len m (omega (arith, c.requires.header_len_in_bounds)) in
     let f₁ = front-next (sum_at - settings_len) (small_bytes s) _ f₀ refl c.store_small.ensures in
     let e : c.store_columns.new.m ≡ take settings_len m ++ (state_bytes s ++ drop header_len m) =
-    front-whole (header_len - sum_at) (column_bytes c.args.s.presence_sums c.args.s.phase_sums c.args.s.breathing_acc c.args.s.heart_acc) _ f₁ c.store_columns.ensures
-    ∙ regroup (take settings_len m) (small_bytes s) (column_bytes c.args.s.presence_sums c.args.s.phase_sums c.args.s.breathing_acc c.args.s.heart_acc) (drop header_len m)
+    front-whole (header_len - sum_at) (column_bytes c.args.s.presence.sums c.args.s.phase.sums c.args.s.breathing.acc c.args.s.heart.acc) _ f₁ c.store_columns.ensures
+    ∙ regroup (take settings_len m) (small_bytes s) (column_bytes c.args.s.presence.sums c.args.s.phase.sums c.args.s.breathing.acc c.args.s.heart.acc) (drop header_len m)
     in
     record { m_after = e; m_after_2 = ap state_at e ∙ stored_loaded (take settings_len m) (drop header_len m) s (length-take-le settings_len m (omega (arith, c.requires.header_len_in_bounds))) (full c) c.requires.small (ranged c) }

@@ -1,10 +1,10 @@
 -- `room_memory::steps::store_columns` meets its contract. Assumes nothing.
 use mathlib.Core.Path.{◌≡◌, ◌∙◌}
-use mathlib.Core.List.{map, append_assoc}
-use Prim.Native.Nat.{◌*◌}
+use mathlib.Core.List.{List, map, map-id, append_assoc}
+use Prim.Native.Nat.{ℕ, ◌*◌}
 use native.Mathlib.Omega.{arith}
 use borrow.Author.Rules.{rules}
-use lib.ListN.{length}
+use lib.ListN.{length, length-map}
 use Rattle.num.specs.Wrap.{bits32}
 use Rattle.num.specs.Words.{le_all}
 use Rattle.num.proofs.Fields.{words_long, bits-long}
@@ -13,33 +13,27 @@ use Rattle.window.specs.Window.{columns}
 use Rattle.room_memory.specs.Header.{sum_at}
 use Rattle.room_memory.proofs.steps.store_columns.Goals as goal
 
--- each array has a number a column
-module _ (c : goal.After-slice_known-7-1) where
-  sum-long : length c.args.amplitudes.sum ≡ columns
-  sum-long = search rules
+-- numbers that are their own words
+abbrev plain : List ℕ → List ℕ
+plain xs = map (λ (n : ℕ). n) xs
 
-  sumsq-long : length c.args.amplitudes.sumsq ≡ columns
-  sumsq-long = search rules
-
-  cos-long : length c.args.angles.cos ≡ columns
-  cos-long = search rules
-
-  sin-long : length c.args.angles.sin ≡ columns
-  sin-long = search rules
-
-  breathing-long : length c.args.breathing ≡ columns
-  breathing-long = search rules
-
-  heart-long : length c.args.heart ≡ columns
-  heart-long = search rules
+plain-long : (k : ℕ) (xs : List ℕ) → length xs ≡ columns → length (le_all k (plain xs)) ≡ k * columns
+plain-long k xs long = words_long k columns (plain xs) (length-map xs (λ (n : ℕ). n) ∙ long)
 
 pub returns : goal.returns
 returns c =
+    let s = c.args.s in
+    let sum-long : length s.presence.sums.sum ≡ columns = search rules in
+    let sumsq-long : length s.presence.sums.sumsq ≡ columns = search rules in
+    let cos-long : length s.phase.sums.cos ≡ columns = search rules in
+    let sin-long : length s.phase.sums.sin ≡ columns = search rules in
+    let breathing-long : length s.breathing.acc ≡ columns = search rules in
+    let heart-long : length s.heart.acc ≡ columns = search rules in
     let f₀ = front-start sum_at c.args.m.now (omega (arith, c.requires)) in
-    let f₁ = front-next (4 * columns) (le_all 4 c.args.amplitudes.sum) _ f₀ (words_long 4 columns c.args.amplitudes.sum (sum-long c)) c.put_u32s.ensures in
-    let f₂ = front-next (8 * columns) (le_all 8 c.args.amplitudes.sumsq) _ f₁ (words_long 8 columns c.args.amplitudes.sumsq (sumsq-long c)) c.put_u64s.ensures in
-    let f₃ = front-next (4 * columns) (le_all 4 (map bits32 c.args.angles.cos)) _ f₂ (bits-long columns c.args.angles.cos (cos-long c)) c.put_i32s.ensures in
-    let f₄ = front-next (4 * columns) (le_all 4 (map bits32 c.args.angles.sin)) _ f₃ (bits-long columns c.args.angles.sin (sin-long c)) c.put_i32s-2.ensures in
-    let f₅ = front-next (4 * columns) (le_all 4 c.args.breathing) _ f₄ (words_long 4 columns c.args.breathing (breathing-long c)) c.put_u32s-2.ensures in
-    let f₆ = front-next (4 * columns) (le_all 4 c.args.heart) _ f₅ (words_long 4 columns c.args.heart (heart-long c)) c.put_u32s-3.ensures in
-    f₆.whole ∙ simp append_assoc
+    let f₁ = front-next (4 * columns) (le_all 4 (plain s.presence.sums.sum)) _ f₀ (plain-long 4 s.presence.sums.sum sum-long) c.put_numbers.ensures in
+    let f₂ = front-next (8 * columns) (le_all 8 (plain s.presence.sums.sumsq)) _ f₁ (plain-long 8 s.presence.sums.sumsq sumsq-long) c.put_numbers-2.ensures in
+    let f₃ = front-next (4 * columns) (le_all 4 (map bits32 s.phase.sums.cos)) _ f₂ (bits-long columns s.phase.sums.cos cos-long) c.put_numbers-3.ensures in
+    let f₄ = front-next (4 * columns) (le_all 4 (map bits32 s.phase.sums.sin)) _ f₃ (bits-long columns s.phase.sums.sin sin-long) c.put_numbers-4.ensures in
+    let f₅ = front-next (4 * columns) (le_all 4 (plain s.breathing.acc)) _ f₄ (plain-long 4 s.breathing.acc breathing-long) c.put_numbers-5.ensures in
+    let f₆ = front-next (4 * columns) (le_all 4 (plain s.heart.acc)) _ f₅ (plain-long 4 s.heart.acc heart-long) c.put_numbers-6.ensures in
+    f₆.whole ∙ rw (map-id s.presence.sums.sum, map-id s.presence.sums.sumsq, map-id s.breathing.acc, map-id s.heart.acc) (simp append_assoc)

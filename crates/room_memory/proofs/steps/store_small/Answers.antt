@@ -15,12 +15,12 @@ regroup p a b c d e f g r = simp append_assoc
 pub returns : goal.returns
 returns c =
     let f₀ = front-start tag_at c.args.m.now (omega (arith, c.requires)) in
-    let f₁ = front-next 1 (c.args.s.tag ∷ []) _ f₀ refl c.put_byte.ensures in
-    let f₂ = front-next detector_len (detector_bytes c.args.s.presence) _ f₁ refl c.put_detector.ensures in
-    let f₃ = front-next detector_len (detector_bytes c.args.s.phase) _ f₂ refl c.put_detector-2.ensures in
-    let f₄ = front-next progress_len (progress_bytes c.args.s.breathing) _ f₃ refl c.put_progress.ensures in
-    let f₅ = front-next progress_len (progress_bytes c.args.s.heart) _ f₄ refl c.put_progress-2.ensures in
-    let f₆ = front-next baseline_len (baseline_bytes c.args.s.baseline) _ f₅ refl c.put_baseline.ensures in
-    let f₇ = front-next fall_len (fall_bytes c.args.s.fall) _ f₆ refl c.put_fall.ensures in
+    let f₁ = front-next 1 (c.args.s.now.tag ∷ []) _ f₀ refl c.put_byte.ensures in
+    let f₂ = front-next detector_len (detector_bytes c.args.s.now.presence.state) _ f₁ refl c.put_detector.ensures in
+    let f₃ = front-next detector_len (detector_bytes c.args.s.now.phase.state) _ f₂ refl c.put_detector-2.ensures in
+    let f₄ = front-next progress_len (progress_bytes c.args.s.now.breathing.progress) _ f₃ refl c.put_progress.ensures in
+    let f₅ = front-next progress_len (progress_bytes c.args.s.now.heart.progress) _ f₄ refl c.put_progress-2.ensures in
+    let f₆ = front-next baseline_len (baseline_bytes c.args.s.now.baseline) _ f₅ refl c.put_baseline.ensures in
+    let f₇ = front-next fall_len (fall_bytes c.args.s.now.fall) _ f₆ refl c.put_fall.ensures in
     f₇.whole
-    ∙ regroup (take tag_at c.args.m.now) (c.args.s.tag ∷ []) (detector_bytes c.args.s.presence) (detector_bytes c.args.s.phase) (progress_bytes c.args.s.breathing) (progress_bytes c.args.s.heart) (baseline_bytes c.args.s.baseline) (fall_bytes c.args.s.fall) (drop sum_at c.args.m.now)
+    ∙ regroup (take tag_at c.args.m.now) (c.args.s.now.tag ∷ []) (detector_bytes c.args.s.now.presence.state) (detector_bytes c.args.s.now.phase.state) (progress_bytes c.args.s.now.breathing.progress) (progress_bytes c.args.s.now.heart.progress) (baseline_bytes c.args.s.now.baseline) (fall_bytes c.args.s.now.fall) (drop sum_at c.args.m.now)

@@ -1,45 +1,87 @@
 -- `room_watch::steps::feed` meets its contract. Assumes nothing.
-use mathlib.Core.Path.{◌≡◌, sym, subst, ◌∙◌}
+use mathlib.Core.Path.{◌≡◌, refl, sym, ap, subst}
 use mathlib.Core.List.{List}
-use Prim.Native.Nat.{ℕ, ◌≤◌}
+use Prim.Native.Nat.{ℕ, ◌≤◌, ◌<◌}
+use native.Mathlib.Omega.{arith}
 use Rattle.window.specs.Window.{columns}
 use Rattle.csi.specs.declared.Features.{Features}
-use Rattle.phase.specs.declared.Phases.{Phases}
+use Rattle.detector.specs.Detector.{Valid}
+use Rattle.presence.specs.Presence.{presence_kind}
+use Rattle.phase_detector.specs.Phase.{phase_kind}
+use Rattle.room_state.specs.Rings.{Rings, rings_of}
 use Rattle.fingerprint.specs.Baseline.{mean_of}
-use Rattle.room_sensing.specs.Sensing.{bytes_refusal, features_in}
 use Rattle.fingerprint.proofs.Ranges.{distance-le}
-use Rattle.room_watch.proofs.Feeding.{fed, few-amplitudes, few-angles}
+use Rattle.room_sensing.specs.Sensing.{bytes_refusal, features_in}
+use Rattle.room_watch.proofs.Rings.{rings-joined, rings-cut, rows-long}
+use Rattle.room_watch.proofs.Feeding.{fed, rhythms-legal, few-amplitudes, few-angles}
+use Rattle.room_watch.proofs.steps.feed.Goals.{After-split_at_mut-breathing}
 use Rattle.room_watch.proofs.steps.feed.Goals as goal
 
 -- a row has room for the features of a sample that is not refused
 few : (body : List ℕ) {f : Features} → f ≡ features_in body → bytes_refusal body ≡ 0 → f.count ≤ columns
 few body e ok = subst (λ (x : Features). x.count ≤ columns) (sym e) (few-amplitudes body ok)
 
-pub push_windows-windows-requires : goal.push_windows-windows-requires
-push_windows-windows-requires c =
-    record { valid = c.requires.settings_value.2.presence; valid_2 = c.requires.settings_value.2.phase; rows_len = (c.requires.settings_value.1, few c.args.body.now c.features_in-features.ensures c.requires.body_value.0, subst (λ (x : Phases). x.count ≤ columns) (sym c.phases_in-phases.ensures) (few-angles c.args.body.now c.requires.body_value.0)) }
+-- the rows, once they are cut
+module _ (c : After-split_at_mut-breathing) where
+  cut : rings_of c.args.settings.now c.args.rows.now ≡ record { presence = c.split_at_mut-presence.result.0.now; phase = c.split_at_mut-phase.result.0.now; breathing = c.split_at_mut-breathing.result.0.now; heart = c.split_at_mut-breathing.result.1.now }
+  cut =
+      let e1 = c.split_at_mut-presence.ensures in
+      let e2 = c.split_at_mut-phase.ensures in
+      let e3 = c.split_at_mut-breathing.ensures in
+      rings-cut c.args.settings.now c.args.rows.now _ _ _ _ _ _ c.ring_len.result c.ring_len-2.result c.ring_len-3.result c.requires.settings_value.1
+      e1.value e2.value e3.value e1.front_len e2.front_len e3.front_len c.ring_len.ensures c.ring_len-2.ensures c.ring_len-3.ensures
 
-pub push_rhythms-rhythms-requires : goal.push_rhythms-rhythms-requires
-push_rhythms-rhythms-requires c =
-    record { settings_value = (c.requires.settings_value.0, c.push_windows-windows.ensures.long ∙ c.requires.settings_value.1, few c.args.body.now c.features_in-features.ensures c.requires.body_value.0); breathing_totals_value = c.requires.settings_value.2.breathing; heart_totals_value = c.requires.settings_value.2.heart }
+-- a frame fits a window whose call says that it is less than the machine's words in size
+small : 144 < 9223372036854775808
+small = omega arith
 
-pub step_fall-fallen-requires : goal.step_fall-fallen-requires
-step_fall-fallen-requires c =
-    (c.requires.settings_value.2.fall, c.push_windows-windows.ensures.presence.valid.placed.calm)
+pub push_window-verdict-requires : goal.push_window-verdict-requires
+push_window-verdict-requires c =
+    let s = c.args.s.now in (
+      small,
+      (
+        subst (λ (l : List ℕ). Valid presence_kind c.args.settings.now.w columns s.presence.state l s.presence.sums.sum s.presence.sums.sumsq) (ap (λ (x : Rings). x.presence) (cut (goal.at.push_window-verdict-requires c).After-split_at_mut-breathing)) c.requires.settings_value.2.presence,
+        rw c.amplitudes_of-amplitudes.ensures (few c.args.body.now c.features_in-features.ensures c.requires.body_value.0),
+      ),
+    )
 
-pub distance-distance-requires : goal.distance-distance-requires
-distance-distance-requires c = c.requires.settings_value.2.baseline
+pub push_window-other-requires : goal.push_window-other-requires
+push_window-other-requires c =
+    let s = c.args.s.now in (
+      small,
+      (
+        subst (λ (l : List ℕ). Valid phase_kind c.args.settings.now.w columns s.phase.state l s.phase.sums.cos s.phase.sums.sin) (ap (λ (x : Rings). x.phase) (cut (goal.at.push_window-other-requires c).After-split_at_mut-breathing)) c.requires.settings_value.2.phase,
+        rw (c.angles_of-angles.ensures, c.phases_in-phases.ensures) (few-angles c.args.body.now c.requires.body_value.0),
+      ),
+    )
 
-pub told-found-requires : goal.told-found-requires
-told-found-requires c =
-    let far = distance-le (mean_of c.args.s.baseline) c.features_in-features.result.variance in
-    (c.push_windows-windows.ensures.presence.valid.placed.calm, subst (λ (x : ℕ). x ≤ 65535) (sym c.distance-distance.ensures) far)
+pub push_rhythm-breathing-requires-clause-config : goal.push_rhythm-breathing-requires-clause-config
+push_rhythm-breathing-requires-clause-config c = (rhythms-legal c.args.settings.now c.requires.settings_value.0).0
 
-pub shape_of-rows : goal.shape_of-rows
-shape_of-rows c = c.push_rhythms-rhythms.ensures.long ∙ c.push_windows-windows.ensures.long
+pub push_rhythm-heart-requires-clause-config : goal.push_rhythm-heart-requires-clause-config
+push_rhythm-heart-requires-clause-config c = (rhythms-legal c.args.settings.now c.requires.settings_value.0).1
+
+pub overflow_cast-result-2 : goal.overflow_cast-result-2
+overflow_cast-result-2 c = omega (arith, distance-le (mean_of c.args.s.now.baseline) c.features_in-features.result.variance, c.distance.ensures)
 
 pub returns : goal.returns
 returns c =
-    fed c.args.settings c.args.s c.args.rows.now c.args.body.now c.push_windows-windows.new.rows c.push_rhythms-rhythms.new.rows c.push_windows-windows.result c.push_rhythms-rhythms.result c.features_in-features.result c.phases_in-phases.result c.time_in-time.result
-    c.features_in-features.ensures c.phases_in-phases.ensures c.time_in-time.ensures c.push_windows-windows.ensures c.push_rhythms-rhythms.ensures c.step_fall-fallen.result c.distance-distance.result c.step_fall-fallen.ensures c.distance-distance.ensures
-    c.requires.settings_value.2 c.told-found.result c.state_after-after.result c.told-found.ensures c.state_after-after.ensures
+    let σ = c.args.settings.now in
+    let body = c.args.body.now in
+    let p = c.push_window-verdict in
+    let pe = rw (c.from-limits.ensures, c.amplitudes_of-amplitudes.ensures) at p.ensures in
+    let q = c.push_window-other in
+    let qe = rw (c.from-limits-2.ensures, c.angles_of-angles.ensures) at q.ensures in
+    let b = c.push_rhythm-breathing in
+    let be = rw c.amplitudes_of-amplitudes.ensures at b.ensures in
+    let h = c.push_rhythm-heart in
+    let he = rw c.amplitudes_of-amplitudes.ensures at h.ensures in
+    let joined = rings-joined σ p.new.ring q.new.ring b.new.ring h.new.ring p.ensures.valid.ring.whole q.ensures.valid.ring.whole b.ensures.whole h.ensures.whole in
+    fed σ c.args.s.now _ c.args.rows.now _ body _ _ c.features_in-features.result c.phases_in-phases.result c.time_in-time.result p.result q.result b.result h.result c.step_fall.result _ c.distance.result
+    c.features_in-features.ensures c.phases_in-phases.ensures c.time_in-time.ensures (cut (goal.at.returns c).After-split_at_mut-breathing) joined
+    (record { presence = pe; phase = qe; breathing = be; heart = he; falls = c.step_fall.ensures; tag = refl; baseline = refl })
+    c.requires.settings_value.2
+    (rows-long σ c.args.rows.now _ _ _ _ _ _ p.new.ring q.new.ring b.new.ring h.new.ring
+    c.split_at_mut-presence.ensures.value c.split_at_mut-phase.ensures.value c.split_at_mut-breathing.ensures.value p.auto.ring q.auto.ring b.auto.ring h.auto.ring)
+    (rw (c.either.ensures, c.rate_of.ensures, c.rate_of-2.ensures))
+    c.distance.ensures

@@ -9,7 +9,7 @@ use mir.Syntax.{w32}
 use mir.Val.{SFits, to_z, of_z}
 use Rattle.num.specs.Lists.{first}
 use Rattle.vitals.specs.Peak.{is_peak, peak_or}
-use Rattle.num.proofs.First.{begun, found, passed, over}
+use Rattle.num.proofs.First.{found, passed, over}
 use Rattle.vitals.proofs.steps.peak.first_peak.Goals as goal
 
 -- a search over a floor is one over what a local holds of it
@@ -27,18 +27,6 @@ inside s hi floor b {k} e h = rw (e, le-leb k hi h)
 past : (s : List ℤ) (hi : ℕ) (floor : ℤ) (b : ℕ) {k : ℕ} → first (is_peak s floor) 2 (hi - 1) ≡ k → hi < k → peak_or s hi floor b ≡ b
 unfolding peak_or
 past s hi floor b {k} e h = rw (e, lt-leb k hi h)
-
-pub loop-lag-init : goal.loop-lag-init
-loop-lag-init c = (omega arith, omega arith, begun _ _ _)
-
-pub is_peak-requires : goal.is_peak-requires
-is_peak-requires c = omega arith
-
-pub overflow_add-lag : goal.overflow_add-lag
-overflow_add-lag c = omega arith
-
-pub loop-lag-smaller : goal.loop-lag-smaller
-loop-lag-smaller c = omega arith
 
 pub loop-lag-preserved : goal.loop-lag-preserved
 loop-lag-preserved c = (

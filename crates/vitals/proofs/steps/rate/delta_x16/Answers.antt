@@ -1,6 +1,5 @@
 -- `delta_x16` meets its contract: what the calls ensure, put together. Assumes nothing.
 use mir.Facts.{to_z-of_z}
-use Rattle.num.proofs.Abs.{neg-abs}
 use Rattle.num.proofs.Read.{read-abs}
 use mathlib.Core.Path.{◌≡◌, sym, ap, ◌∙◌}
 use mathlib.Core.Bool.{Bool, cond}
@@ -16,6 +15,7 @@ use Rattle.num.proofs.Cond.{cond-holds}
 use Rattle.vitals.specs.Rate.{bend, vertex}
 use borrow.Author.Rules.{sfits_of}
 use Rattle.vitals.specs.Steps.{most_summed}
+use Rattle.vitals.proofs.Facts.{clamp-is}
 use Rattle.vitals.proofs.steps.rate.delta_x16.Goals as goal
 
 -- the bend's sign decides, d being what is read back of it
@@ -38,21 +38,13 @@ seen a b c r ha hb hc e = e ∙ rw (read-abs w32 a (omega arith), read-abs w32 b
 leant : (a c d r : ℤ) {y : ℤ} → nat_abs a ≤ most_summed → nat_abs c ≤ most_summed → y ≡ d → r ≡ quot_z ((to_z w32 (of_z w32 a) -ℤ to_z w32 (of_z w32 c)) *ℤ pos 8) y → r ≡ quot_z ((a -ℤ c) *ℤ pos 8) d
 leant a c d r ha hc q e = e ∙ rw (read-abs w32 a (omega arith), read-abs w32 c (omega arith), q)
 
-pub lean-requires : goal.lean-requires
-lean-requires c =
-    (rw (read-abs w32 c.args.a (omega arith)) c.requires.0, rw (read-abs w32 c.args.c (omega arith)) c.requires.2, neg-abs (to_z w32 (of_z w32 c.bend_of-d.result)) c.if-d-lt0.true)
-
 pub returns-then-d-lt0 : goal.returns-then-d-lt0
 returns-then-d-lt0 c =
     let e = to_z-of_z (sfits_of {w = w32} {z = c.bend_of-d.result} c.bend_of-d.type_inv) ∙ seen c.args.a c.args.b c.args.c c.bend_of-d.result c.requires.0 c.requires.1 c.requires.2 c.bend_of-d.ensures.0 in
     let q : c.lean.result ≡ quot_z ((c.args.a -ℤ c.args.c) *ℤ pos 8) (bend c.args.a c.args.b c.args.c) =
     leant c.args.a c.args.c (bend c.args.a c.args.b c.args.c) c.lean.result c.requires.0 c.requires.2 e c.lean.ensures in
     sized c.args.a c.args.b c.args.c (
-    to_z-of_z (sfits_of {w = w32} {z = c.clamp_8.result} c.clamp_8.type_inv) ∙ c.clamp_8.ensures ∙
+    to_z-of_z (sfits_of {w = w32} {z = c.clamp.result} c.clamp.type_inv) ∙ c.clamp.ensures.value ∙ clamp-is 7 8 (to_z w32 (of_z w32 c.lean.result)) ∙
     ap (clamp_z (negsuc 7) (pos 8)) (to_z-of_z (sfits_of {w = w32} {z = c.lean.result} c.lean.type_inv) ∙ q) ∙
     sym (decided c.args.a c.args.b c.args.c _ e c.if-d-lt0.true)
     )
-
-pub returns-else-d-lt0 : goal.returns-else-d-lt0
-returns-else-d-lt0 c =
-    sized c.args.a c.args.b c.args.c (sym (decided c.args.a c.args.b c.args.c _ (to_z-of_z (sfits_of {w = w32} {z = c.bend_of-d.result} c.bend_of-d.type_inv) ∙ seen c.args.a c.args.b c.args.c c.bend_of-d.result c.requires.0 c.requires.1 c.requires.2 c.bend_of-d.ensures.0) c.if-d-lt0.false))

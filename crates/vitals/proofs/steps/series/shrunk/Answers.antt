@@ -1,25 +1,21 @@
 -- `shrunk` meets its contract. Assumes nothing.
 use mathlib.Core.Path.{◌≡◌, refl, ◌∙◌}
-use native.Mathlib.Omega.{arith}
-use borrow.Author.Rules.{sfits_of}
-use lib.IntN.{◌-ℤ◌}
-use mir.Syntax.{w16, w32}
-use mir.Val.{to_z, of_z}
 use mir.Facts.{to_z-of_z}
-use Rattle.num.proofs.Read.{read-abs}
+use mir.Syntax.{w32}
+use Rattle.std.proofs.Common.{rules}
 use Rattle.vitals.specs.Series.{at}
-use Rattle.vitals.proofs.Windows.{room, shorter}
+use Rattle.vitals.proofs.Windows.{taken, taken_fits, shorter}
 use Rattle.vitals.proofs.steps.series.shrunk.Goals as goal
 
-pub less-requires : goal.less-requires
-less-requires c =
-    let w = c.args.w in let r = room c.args.x.now w c.requires.0 c.requires.1 c.requires.2 in
-    rw (read-abs w32 c.args.w.sum (omega arith)) (omega arith)
+pub overflow_sub-result : goal.overflow_sub-result
+overflow_sub-result c =
+    let x = c.args.x.now in let w = c.args.w in
+    let e : c.from.result ≡ at x w.lo = c.from.ensures ∙ search rules in
+    taken_fits x w c.requires.0 c.requires.1 c.requires.2 w.lo c.from.result e
 
 pub returns : goal.returns
 returns c =
-    let x = c.args.x.now in let w = c.args.w in let r = room x w c.requires.0 c.requires.1 c.requires.2 in
-    let e : to_z w32 (of_z w32 c.less.result) ≡ c.args.w.sum -ℤ at x c.args.w.lo =
-    to_z-of_z {w = w32} (sfits_of c.less.type_inv) ∙ c.less.ensures
-    ∙ rw (read-abs w32 c.args.w.sum (omega arith), to_z-of_z {w = w16} (sfits_of {w = w16} {z = at x c.args.w.lo} c.less-arg-1.given)) in
-    (shorter x w c.requires.0 c.requires.1 c.requires.2 _ e c.requires.3, refl, refl)
+    let x = c.args.x.now in let w = c.args.w in
+    let e : c.from.result ≡ at x w.lo = c.from.ensures ∙ search rules in
+    let f = taken_fits x w c.requires.0 c.requires.1 c.requires.2 w.lo c.from.result e in
+    (shorter x w c.requires.0 c.requires.1 c.requires.2 _ (to_z-of_z {w = w32} f ∙ taken x w c.requires.0 c.requires.1 c.requires.2 w.lo c.from.result e) c.requires.3, refl, refl)

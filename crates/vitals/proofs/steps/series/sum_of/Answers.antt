@@ -1,29 +1,37 @@
--- `sum_of` meets its contract: the sum so far is that of the samples passed. Assumes nothing.
-use mathlib.Core.Path.{◌≡◌, refl, sym, ◌∙◌}
+-- `sum_of` meets its contract. Assumes nothing.
+use mathlib.Core.Path.{◌≡◌, refl, sym}
 use Prim.Native.Nat.{◌+◌}
 use native.Mathlib.Omega.{arith}
-use borrow.Author.Rules.{sfits_of}
+use lib.IntN.{◌+ℤ◌}
 use lib.ListN.{take}
-use mir.Syntax.{w16, w32}
-use mir.Val.{to_z, of_z}
 use mir.Facts.{to_z-of_z}
+use mir.Syntax.{w16, w32}
+use mir.Val.{SFits, to_z, of_z}
+use Rattle.std.proofs.Common.{rules}
 use Rattle.num.specs.Sum.{sum_z}
+use Rattle.num.proofs.Abs.{sfits-abs}
+use Rattle.num.proofs.Read.{read-abs}
 use Rattle.num.proofs.SumZ.{sum-take-more}
-use Rattle.vitals.proofs.Windows.{slice-size}
 use Rattle.vitals.specs.Series.{at}
+use Rattle.vitals.proofs.Windows.{slice-size}
 use Rattle.vitals.proofs.steps.series.sum_of.Goals as goal
 
-pub loop-i-init : goal.loop-i-init
+module _ (c : goal.After-from-sum) where
+  more : to_z w32 c.loop-v.sum-bits +ℤ to_z w32 (of_z w32 c.from-sum.result) ≡ sum_z (take (c.loop-v.v-index + 1) c.args.x.now)
+  more =
+      let x = c.args.x.now in let k = c.loop-v.v-index in
+      let held : to_z w16 (of_z w16 (at x k)) ≡ at x k = search rules in
+      rw (c.loop-v.invariant, c.from-sum.ensures, held, read-abs w32 (at x k) (omega (arith, c.requires.1 k))) (sym (sum-take-more x k (omega arith)))
+
+  fits : SFits w32 (sum_z (take (c.loop-v.v-index + 1) c.args.x.now))
+  fits = sfits-abs {w = w32} _ (omega (arith, slice-size c.args.x.now 0 (c.loop-v.v-index + 1) (omega arith) c.requires.1))
+
+pub loop-v-init : goal.loop-v-init
 unfolding sum_z
-loop-i-init c = (omega arith, refl, refl)
+loop-v-init c = refl
 
-pub plus-sum-requires : goal.plus-sum-requires
-plus-sum-requires c =
-    rw c.loop-i.invariant.2 (omega (arith, slice-size c.args.x.now 0 c.loop-i.i c.loop-i.invariant.0 c.requires.1))
+pub overflow_add-sum : goal.overflow_add-sum
+overflow_add-sum c = rw (more c) (fits c)
 
-pub loop-i-preserved : goal.loop-i-preserved
-loop-i-preserved c =
-    let x = c.args.x.now in let e : to_z w32 (of_z w32 c.plus-sum.result) ≡ sum_z (take (c.loop-i.i + 1) x) =
-    to_z-of_z {w = w32} (sfits_of c.plus-sum.type_inv) ∙ c.plus-sum.ensures
-    ∙ rw (c.loop-i.invariant.2, to_z-of_z {w = w16} (sfits_of {w = w16} {z = at x c.loop-i.i} c.plus-arg-1.given)) (sym (sum-take-more x c.loop-i.i (omega arith))) in
-    (omega arith, refl, e)
+pub loop-v-preserved : goal.loop-v-preserved
+loop-v-preserved c = rw (more c) (to_z-of_z {w = w32} (fits c))

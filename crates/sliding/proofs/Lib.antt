@@ -1,0 +1,5 @@
+pub mod Range
+pub mod Turns
+pub mod Calls
+pub mod Numbers
+pub mod Alike

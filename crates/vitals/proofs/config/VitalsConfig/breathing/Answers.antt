@@ -1,5 +1,0 @@
--- `VitalsConfig::breathing` meets its contract. Assumes nothing.
-use Rattle.vitals.proofs.config.VitalsConfig.breathing.Goals as goal
-
-pub returns : goal.returns
-returns c = rw c.low16.ensures
