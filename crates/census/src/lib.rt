@@ -47,7 +47,7 @@ fn row_amplitudes(im: i8) -> [u16; BYTES]
 fn sector_of(angle: i16) -> u16
     ensures { result ≡ sector_of angle }
 {
-    num::i16_to_u16(angle) / SECTOR
+    angle.cast_unsigned() / SECTOR
 }
 
 // The sectors of the same pairs.

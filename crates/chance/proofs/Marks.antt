@@ -171,8 +171,8 @@ later i j (Bursting b) h g = omega arith
 later i j (Lying l) h g = omega arith
 later i j (Waiting e) h g = omega arith
 
-pub met-later : (i j : ℕ) (m : Mark) → i ≤ j → reached i m ≡ true → reached j m ≡ true
-met-later i j m h e = met j m (later i j m h (good i m e))
+pub met_later : (i j : ℕ) (m : Mark) → i ≤ j → reached i m ≡ true → reached j m ≡ true
+met_later i j m h e = met j m (later i j m h (good i m e))
 
 -- the next frame can meet the next mark
 module _ (j : ℕ) where
@@ -201,8 +201,8 @@ module _ (j : ℕ) where
   next-good m (Settling b p s) g = (parts m g).still
   next-good m (Refractory u) g = (parts m g).end
 
-pub met_next : (j : ℕ) (m : Mark) (p : Phase) → reached j m ≡ true → reached (suc j) (next_mark m j p) ≡ true
-met_next j m p e = met (suc j) (next_mark m j p) (next-good j m p (good j m e))
+pub met_next : (j : ℕ) (m : Mark) (p : Phase) → j < max_frames → reached j m ≡ true → reached max_frames (next_mark m j p) ≡ true
+met_next j m p l e = met max_frames (next_mark m j p) (later (suc j) max_frames (next_mark m j p) (omega arith) (next-good j m p (good j m e)))
 
 -- ---- places
 pub place-small : (m : Mark) → Good max_frames m → place_of m < places

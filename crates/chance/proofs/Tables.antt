@@ -46,19 +46,19 @@ unfolding ways_at
 ways-small-at table whole k x = whole.small (k * places + x)
 
 module _ (c : FallConfig) (s j : ℕ) (table : List ℕ) (k : ℕ) (m : Mark) (w : ℕ) where
-  pub term-small : Whole table → term_of c s j table k m w ≤ most_ways
+  pub term_small : Whole table → term_of c s j table k m w ≤ most_ways
   unfolding term_of
-  term-small whole = cond-holds (λ (n : ℕ). n ≤ most_ways) (ltb k (said (stepped c s j m w).suspicion)) _ _ (λ h. omega arith) (λ h. ways-small-at table whole _ _)
+  term_small whole = cond-holds (λ (n : ℕ). n ≤ most_ways) (ltb k (said (stepped c s j m w).suspicion)) _ _ (λ h. omega arith) (λ h. ways-small-at table whole _ _)
 
   -- a frame that says more events than are asked for, and one that does not
   module _ (r : Pushed) (e : ℕ) (step : r ≡ stepped c s j m w) (says : e ≡ said r.suspicion) where
-    pub term-none : k < e → 0 ≡ term_of c s j table k m w
+    pub term_none : k < e → 0 ≡ term_of c s j table k m w
     unfolding term_of
-    term-none h = rw (← step, ← says, lt-ltb k e h)
+    term_none h = rw (← step, ← says, lt-ltb k e h)
 
-    pub term-some : e ≤ k → (x : ℕ) → x ≡ place_of (next_mark m j r.detector.phase) → ways_at table (k - e) x ≡ term_of c s j table k m w
+    pub term_some : e ≤ k → (x : ℕ) → x ≡ place_of (next_mark m j r.detector.phase) → ways_at table (k - e) x ≡ term_of c s j table k m w
     unfolding term_of
-    term-some h x place = rw (← step, ← says, le-ltb k e h, place)
+    term_some h x place = rw (← step, ← says, le-ltb k e h, place)
 
 -- an entry that a loop has built
 at_entry : (f : ℕ → Mark → ℕ) (k x : ℕ) → k < layers → x < places → ways_at (build entries (λ (p : ℕ). f (p / places) (mark_at (p % places)))) k x ≡ f k (mark_at x)
@@ -183,7 +183,7 @@ module _ (c : FallConfig) (s : ℕ) (choices : List ℕ) (n : ℕ) where
               (one-more-frame c s choices i (n - j) (omega (arith, t.within)) few (omega (arith, t.within)) table (subst (λ (a : ℕ). Holds c s choices a (n - j) table) x t.holds));
         }
 
-    pub all-taken : j ≤ 0 → resting_counts table ≡ counts_of c choices s n
-    all-taken h =
+    pub all_taken : j ≤ 0 → resting_counts table ≡ counts_of c choices s n
+    all_taken h =
         let z : j ≡ 0 = omega arith in let y : n - j ≡ n = omega arith in
         counts-are c s choices n l table (subst (λ (a : ℕ). Holds c s choices a n table) z (subst (λ (a : ℕ). Holds c s choices j a table) y t.holds))

@@ -5,11 +5,12 @@
 
 ghost use Rattle.std.specs.Prelude.{◌≡◌, true, ◌*◌, ◌≤◌, ◌<◌, length};
 ghost use Rattle.refusal.specs.Refusal.{answered_number};
-ghost use Rattle.chance.specs.Chance.{said, chances_answer, chances_refusal, max_spacing, max_frames, max_choices, counts_of};
+ghost use Rattle.chance.specs.Chance.{chances_answer, chances_refusal, max_spacing, max_frames, max_choices, counts_of};
 ghost use Rattle.chance.specs.Marks.{phase_of, next_mark, reached, places, place_of, mark_at, ways_at, empty_table, stepped, term_of, sum_of, entry_of, table_of, resting_counts, Whole};
 
-use fall::{FallConfig, FallDetector, FallEvent, Phase, Pushed};
+use fall::{FallConfig, FallDetector, Phase, Pushed};
 use refusal::Refusal;
+use std::array;
 
 pub const CHOICES: usize = 4;
 
@@ -130,6 +131,7 @@ impl Mark {
 }
 
 // The count for k events at place x.
+#[tactic(auto, unfolding(crate::specs::Marks::ways_at), using(crate::proofs::Tables::past))]
 fn ways_at(table: &[u64; ENTRIES], k: usize, x: usize) -> u64
     requires { x < places }
     ensures { result ≡ ways_at table.now k x }
@@ -140,21 +142,19 @@ fn ways_at(table: &[u64; ENTRIES], k: usize, x: usize) -> u64
     table[k * PLACES + x]
 }
 
-// A frame in front of others: what is asked, its place among all frames, and the table for the frames behind it.
+// What `count` is asked, within its limits.
 #[derive(Clone, Copy)]
-struct Front<'a> {
+struct Question<'a> {
     config: FallConfig,
     choices: &'a [u16],
     spacing: u64,
-    frame: usize,
-    behind: &'a [u64; ENTRIES],
-    ghost near: { spacing ≤ max_spacing },
-    ghost within: { frame < max_frames },
+    frames: usize,
     ghost few: { length choices.now ≤ max_choices },
-    ghost whole: { Whole behind.now },
+    ghost near: { spacing ≤ max_spacing },
+    ghost within: { frames ≤ max_frames },
 }
 
-impl Front<'_> {
+impl Question<'_> {
     // The time of a frame.
     fn time(&self, frame: usize) -> u64
         requires { frame < max_frames }
@@ -163,6 +163,7 @@ impl Front<'_> {
         frame as u64 * self.spacing
     }
 
+    // The state that a mark stands for.
     #[tactic(auto, unfolding(crate::specs::Marks::phase_of, crate::specs::Marks::reached))]
     fn phase_of(&self, m: Mark) -> Phase
         requires { reached max_frames m ≡ true }
@@ -193,52 +194,42 @@ impl Front<'_> {
         }
     }
 
-    // The machine at a mark, after the frame with this wander.
-    fn stepped(&self, m: Mark, wander: u16) -> Pushed
-        requires { reached self.now.frame m ≡ true }
-        ensures { result ≡ stepped self.now.config self.now.spacing self.now.frame m wander }
+    // How many of all sequences make 0, 1, .., 24 events.
+    #[tactic(auto, using(crate::proofs::Tables::all_taken))]
+    fn counts(&self) -> [u64; COUNTS]
+        ensures { result ≡ counts_of self.now.config self.now.choices.now self.now.spacing self.now.frames }
     {
-        let phase = self.phase_of(m);
-        let machine = FallDetector {
-            config: self.config,
-            phase,
-        };
-        machine.push(wander, self.time(self.frame))
-    }
-
-    // How many sequences that begin with this wander make k events, by the table for those without it.
-    fn term(&self, k: usize, m: Mark, wander: u16) -> u64
-        requires { reached self.now.frame m ≡ true }
-        ensures { result ≡ term_of self.now.config self.now.spacing self.now.frame self.now.behind.now k m wander }
-    {
-        let pushed = self.stepped(m, wander);
-        let place = m.next(self.frame, pushed.detector.phase).place();
-        let events = said(pushed.suspicion);
-        if k < events {
-            return 0;
+        let mut table = empty_table();
+        for frame in (0..self.frames).rev() {
+            let front = Front {
+                question: *self,
+                frame,
+                behind: &table,
+            };
+            table = front.table();
         }
-        ways_at(self.behind, k - events, place)
+        resting_counts(&table)
     }
+}
 
-    // The same for all choices.
-    fn sum(&self, k: usize, m: Mark) -> u64
-        requires { reached self.now.frame m ≡ true }
-        ensures { result ≡ sum_of self.now.config self.now.spacing self.now.frame self.now.choices.now self.now.behind.now k m }
-    {
-        let mut sum = 0;
-        for wander in self.choices {
-            sum += self.term(k, m, *wander);
-        }
-        sum
-    }
+// A frame in front of others, with the table for the frames behind it.
+#[derive(Clone, Copy)]
+struct Front<'a> {
+    question: Question<'a>,
+    frame: usize,
+    behind: &'a [u64; ENTRIES],
+    ghost within: { frame < max_frames },
+    ghost whole: { Whole behind.now },
+}
 
-    // The same at a mark that the frame can meet; nothing is counted at the others.
+impl Front<'_> {
+    // How many sequences from a mark on make k events, at a mark that the frame can meet; nothing is counted at the others.
     #[tactic(auto, unfolding(crate::specs::Marks::entry_of))]
-    fn entry(&self, k: usize, m: Mark) -> u64
-        ensures { result ≡ entry_of self.now.config self.now.spacing self.now.frame self.now.choices.now self.now.behind.now k m }
+    fn entry(&self, k: usize, mark: Mark) -> u64
+        ensures { result ≡ entry_of self.now.question.config self.now.question.spacing self.now.frame self.now.question.choices.now self.now.behind.now k mark }
     {
-        if m.reached(self.frame) {
-            self.sum(k, m)
+        if mark.reached(self.frame) {
+            Met { front: *self, mark }.sum(k)
         } else {
             0
         }
@@ -246,66 +237,77 @@ impl Front<'_> {
 
     // The table of the frame and those behind it.
     fn table(&self) -> [u64; ENTRIES]
-        ensures { result ≡ table_of self.now.config self.now.spacing self.now.frame self.now.choices.now self.now.behind.now }
+        ensures { result ≡ table_of self.now.question.config self.now.question.spacing self.now.frame self.now.question.choices.now self.now.behind.now }
     {
-        let mut out = [0; ENTRIES];
-        for (p, entry) in out.iter_mut().enumerate() {
-            *entry = self.entry(p / PLACES, Mark::at(p % PLACES));
-        }
-        out
+        array::from_fn(|p| self.entry(p / PLACES, Mark::at(p % PLACES)))
     }
 }
 
-// The events that a frame says.
-fn said(suspicion: Option<FallEvent>) -> usize
-    ensures { result ≡ said suspicion }
-{
-    usize::from(suspicion.is_some())
+// A frame in front, with a mark that it can meet.
+#[derive(Clone, Copy)]
+struct Met<'a> {
+    front: Front<'a>,
+    mark: Mark,
+    ghost met: { reached front.frame mark ≡ true },
+}
+
+impl Met<'_> {
+    // The machine after the frame with this wander.
+    #[tactic(auto, unfolding(crate::specs::Marks::stepped), using(crate::proofs::Marks::met_later))]
+    fn stepped(&self, wander: u16) -> Pushed
+        ensures { result ≡ stepped self.now.front.question.config self.now.front.question.spacing self.now.front.frame self.now.mark wander }
+    {
+        let Met { front, mark } = *self;
+        let machine = FallDetector {
+            config: front.question.config,
+            phase: front.question.phase_of(mark),
+        };
+        machine.push(wander, front.question.time(front.frame))
+    }
+
+    // How many sequences that begin with this wander make k events, by the table for those without it.
+    #[tactic(auto, using(crate::proofs::Marks::met_next, crate::proofs::Tables::term_none, crate::proofs::Tables::term_some))]
+    fn term(&self, k: usize, wander: u16) -> u64
+        ensures { result ≡ term_of self.now.front.question.config self.now.front.question.spacing self.now.front.frame self.now.front.behind.now k self.now.mark wander }
+    {
+        let Met { front, mark } = *self;
+        let pushed = self.stepped(wander);
+        let place = mark.next(front.frame, pushed.detector.phase).place();
+        let events = usize::from(pushed.suspicion.is_some());
+        if k < events {
+            return 0;
+        }
+        ways_at(front.behind, k - events, place)
+    }
+
+    // The same for all choices.
+    #[tactic(auto, using(crate::proofs::Tables::term_small))]
+    fn sum(&self, k: usize) -> u64
+        ensures { result ≡ sum_of self.now.front.question.config self.now.front.question.spacing self.now.front.frame self.now.front.question.choices.now self.now.front.behind.now k self.now.mark }
+    {
+        let mut sum = 0;
+        for wander in self.front.question.choices {
+            sum += self.term(k, *wander);
+        }
+        sum
+    }
 }
 
 // No frame: one sequence from each state, without an event.
 fn empty_table() -> [u64; ENTRIES]
     ensures { result ≡ empty_table }
 {
-    let mut out = [0; ENTRIES];
-    for (p, entry) in out.iter_mut().enumerate() {
-        *entry = u64::from(p < PLACES);
-    }
-    out
+    array::from_fn(|p| u64::from(p < PLACES))
 }
 
 // The counts of a new machine.
 fn resting_counts(table: &[u64; ENTRIES]) -> [u64; COUNTS]
     ensures { result ≡ resting_counts table.now }
 {
-    let mut out = [0; COUNTS];
-    for (k, count) in out.iter_mut().enumerate() {
-        *count = ways_at(table, k, RESTING);
-    }
-    out
+    array::from_fn(|k| ways_at(table, k, RESTING))
 }
 
-fn counts_of(config: FallConfig, choices: &[u16], spacing: u64, n: usize) -> [u64; COUNTS]
-    requires near { spacing ≤ max_spacing }
-    requires within { n ≤ max_frames }
-    requires few { length choices.now ≤ max_choices }
-    ensures { result ≡ counts_of config choices.now spacing n }
-{
-    let mut table = empty_table();
-    for frame in (0..n).rev() {
-        let front = Front {
-            config,
-            choices,
-            spacing,
-            frame,
-            behind: &table,
-        };
-        table = front.table();
-    }
-    resting_counts(&table)
-}
-
-// How many of all sequences of n choices, `spacing` microseconds apart, make 0, 1, .., 24 events. 13: no choice or more than four, more than 24
+// How many of all sequences of n choices, `spacing` microseconds apart, make 0, 1, .., 24 events. Refused: no choice or more than four, more than 24
 // frames, or a spacing above 1,000,000,000.
 #[tactic(auto, unfolding(crate::specs::Chance::chances_answer, crate::specs::Chance::allowed))]
 pub fn count(
@@ -320,5 +322,11 @@ pub fn count(
     if choices.is_empty() || choices.len() > CHOICES || n > FRAMES || spacing > SPACING {
         return Err(Refusal::Chance);
     }
-    Ok(counts_of(config, choices, spacing, n))
+    let question = Question {
+        config,
+        choices,
+        spacing,
+        frames: n,
+    };
+    Ok(question.counts())
 }

@@ -8,7 +8,7 @@ use native.Mathlib.Nat.{le_of_suc-le-suc, not-suc-le-zero, add-zero}
 use native.Mathlib.Decide.{dec_lt}
 use native.Mathlib.Omega.{arith}
 use lib.Dec.{leb}
-use borrow.Author.Tests.{le-leb, leb-true}
+use borrow.Author.Tests.{leb-true}
 use lib.ListN.{length, get_or, take, drop, length-append, get_or-append}
 use lib.Seq.{drop-cons, get_or-append-add}
 use Rattle.num.proofs.Logic.{both}
@@ -77,11 +77,6 @@ module _ (l : Layout) where
       by_cases (dec_lt k n1)
       (λ (i : k < n1). omega (arith, first k i, u.end))
       (λ i. omega (arith, second k (omega arith) (omega arith), u.end2))
-
--- ---- the tags as the code tells them apart
-pub known_by : (tag : ℕ) → 1 ≤ tag → leb tag (length layouts) ≡ known tag
-unfolding known
-known_by tag h = simp (le-leb 1 tag h)
 
 -- one computed test of all layouts for each of the facts
 module _ (tag : ℕ) (e : known tag ≡ true) where

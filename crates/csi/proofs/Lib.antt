@@ -5,3 +5,4 @@ pub mod Rules
 pub mod Scaled
 pub mod Shape
 pub mod Sums
+pub mod Pairs

@@ -1,4 +1,4 @@
--- The amplitudes of a sample, their mean and variance, and the same divided by their mean (document 01, "Amplitudes and baseline";
+-- The amplitudes of a sample, their mean and variance, and the same divided by their mean (docs/SPEC.md, "Amplitudes and baseline";
 -- csi.rs, `CsiFrame::features` and `Features::normalised`). Assumes nothing.
 use Rattle.std.specs.Result.{result_and}
 use Rattle.std.specs.Prelude.{Result, Ok, Err, cond, List, ◌++◌, map, ℕ, ◌+◌, ◌-◌, ◌*◌, ◌/◌, min, ltb, eqb, ℤ, nat_abs, length, get_or, take, replicate}

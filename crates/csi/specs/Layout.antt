@@ -1,4 +1,4 @@
--- Which entries of a sample's I/Q bytes carry data, by the layout tag (document 01, "The sample"; csi.rs, `Layout`). Assumes nothing.
+-- Which entries of a sample's I/Q bytes carry data, by the layout tag (docs/SPEC.md, "The sample"; csi.rs, `Layout`). Assumes nothing.
 use Rattle.std.specs.Prelude.{Option, Some, None, Result, Ok, Err, Bool, cond, not, ◌&&◌, List, [], ◌∷◌, ◌++◌, ℕ, zero, suc, ◌-◌, ◌*◌, ◌≤◌, leb, ltb, length, get_or}
 use Rattle.num.specs.Limits as limits
 use Rattle.refusal.specs.declared.Refusal.{Refusal}

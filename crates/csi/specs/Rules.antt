@@ -1,4 +1,4 @@
--- Rules of document 01 about layouts and amplitudes. Theorems in proofs/Rules.antt. Assumes nothing.
+-- Rules of layouts and amplitudes. Theorems in proofs/Rules.antt. Assumes nothing.
 use Rattle.std.specs.Prelude.{◌≡◌, List, [], ◌∷◌, map, ℕ, ◌≤◌, ◌<◌, length, get_or}
 use Rattle.csi.specs.Features.{amplitude_at}
 use Rattle.csi.specs.Layout.{layouts, entries_of}

@@ -67,8 +67,8 @@ pub(crate) fn every(iq: &[u8], entries: usize) -> [u16; crate::MAX_SUBCARRIERS]
     ensures { (k : ℕ) → k < entries → get_or result k 0 ≡ amplitude_at iq.now k }
 {
     let mut all = [0u16; crate::MAX_SUBCARRIERS];
-    for k in 0..entries {
-        all[k] = amplitude(iq[2 * k], iq[2 * k + 1]);
+    for (k, &[im, re]) in iq.as_chunks::<2>().0[..entries].iter().enumerate() {
+        all[k] = amplitude(im, re);
     }
     all
 }

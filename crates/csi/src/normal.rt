@@ -39,8 +39,8 @@ pub(crate) fn divided(amplitudes: &[u16], sum: u32) -> Features
     let n = amplitudes.len();
     let factor = ratio(n as u64, u64::from(sum));
     let mut out = [0u16; MAX_SUBCARRIERS];
-    for k in 0..n {
-        out[k] = scaled(amplitudes[k], factor);
+    for (k, &a) in amplitudes.iter().enumerate() {
+        out[k] = scaled(a, factor);
     }
     crate::moments::described(out, n)
 }

@@ -31,7 +31,7 @@ pub fn entry(layout: Layout, k: usize) -> usize
 pub fn amplitude(im: i8, re: i8) -> u16
     ensures { result ≡ amplitude_of im re }
 {
-    crate::amplitude::amplitude(num::i8_to_byte(im), num::i8_to_byte(re))
+    crate::amplitude::amplitude(im.cast_unsigned(), re.cast_unsigned())
 }
 
 // The features of I/Q bytes that `frame::check` does not refuse under this tag.

@@ -24,12 +24,11 @@ pub extern "C" fn csi_normalised(f: Features) -> Measured
     f.normalised().into()
 }
 
-// Both, as the room takes them: judged once, then by steps.
+// The features, divided by their mean.
 fn watched(iq: &[u8], tag: u8) -> Result<Features, Refusal>
     ensures { result ≡ watched_answer iq.now tag }
 {
-    csi::frame::check(iq.len(), tag)?;
-    Ok(csi::steps::normalised(csi::steps::features(iq, tag)))
+    csi::frame::features(iq, tag)?.normalised()
 }
 
 #[unsafe(no_mangle)]

@@ -1,5 +1,5 @@
-// Replays recorded frames and hand-made features: a line for each. `stdout` holds what the Rust answered, and for what the Rust does
-// not refuse, document 01's number.
+// Replays recorded frames and hand-made features: a line for each. `stdout` holds what the Rust answered, and, where the Rust answers
+// and this refuses, the refusal.
 #![tactic(auto)]
 
 use csi::Features;
@@ -27,7 +27,7 @@ fn measured(rt: &impl Print, answer: Result<Features, Refusal>) -> io::Result<()
             let check = cases::check(&f.amplitude);
             print!(rt; " {} {} {} {check}", f.count, f.mean, f.variance)
         }
-        Err(reason) => print!(rt; " refused {}", reason.number()),
+        Err(reason) => print!(rt; " {reason}"),
     }
 }
 
@@ -50,24 +50,22 @@ fn hand_made(rt: &impl Print, bytes: &[u8]) -> io::Result<()> {
     let f = Features {
         amplitude: cases::words(&bytes[AMPLITUDES..]),
         count: bytes[1],
-        mean: num::steps::u16_at(bytes, MEAN),
-        variance: num::steps::u32_at(bytes, VARIANCE),
+        mean: num::steps::word_at(bytes, MEAN),
+        variance: num::steps::word_at(bytes, VARIANCE),
     };
     print!(rt; "normalised")?;
     measured(rt, f.normalised())
 }
 
 fn line(rt: &impl Print, bytes: &[u8]) -> io::Result<()> {
-    if 2 <= bytes.len() {
-        if bytes[0] == FRAME {
-            frame(rt, &bytes[2..], bytes[1])?;
-        } else {
-            hand_made(rt, bytes)?;
-        }
+    match bytes {
+        [FRAME, tag, iq @ ..] => frame(rt, iq, *tag)?,
+        [_, _, ..] => hand_made(rt, bytes)?,
+        _ => {}
     }
     println!(rt; "")
 }
 
 fn main(rt: HostRuntime) -> io::Result<()> {
-    cases::each::<MOST_BYTES, _>(&rt, |case| line(&rt, case))
+    cases::steps::each::<MOST_BYTES, _>(&rt, |case| line(&rt, case))
 }

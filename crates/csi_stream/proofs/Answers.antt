@@ -1,18 +1,17 @@
 -- What the tests of the code say of the answers that `specs/Codec.antt` defines. Assumes nothing.
 use Prim.Native.Nat.{ℕ, ◌+◌, ◌≤◌}
-use mathlib.Core.Path.{◌≡◌, refl, sym, ap}
-use mathlib.Core.Bool.{Bool, true, false, cond}
+use mathlib.Core.Path.{◌≡◌}
+use mathlib.Core.Bool.{true}
 use mathlib.Core.List.{List, ◌++◌}
 use lib.IntN.{ℤ}
 use lib.ListN.{length, get_or, drop}
 use borrow.Author.Tests.{le-leb, le-ltb, leb-true, eqb-true}
 use Rattle.csi_stream.specs.declared.Sample.{Sample}
-use Rattle.std.specs.Prelude.{Result, Ok, Err}
+use Rattle.std.specs.Prelude.{Ok}
 use Rattle.num.specs.Words.{le_at}
 use Rattle.num.specs.Wrap.{signed8}
 use Rattle.num.proofs.Logic.{both}
-use Rattle.refusal.specs.declared.Refusal.{Refusal}
-use Rattle.csi_stream.specs.Wire.{encoded, sample_of}
+use Rattle.csi_stream.specs.Wire.{encoded}
 use Rattle.csi_stream.specs.Codec.{legal, decode_of, encode_of, encode_into}
 
 -- what a legal record is
@@ -24,22 +23,10 @@ tests r e =
     (leb-true _ _ a.0, (eqb-true _ _ b.0, (leb-true _ _ d.0, eqb-true _ _ d.1)))
 
 -- a legal record is accepted
-pub accepted : (r : List ℕ) (t : ℕ) (z : ℤ) → legal r ≡ true → t ≡ le_at r 4 8 → z ≡ signed8 (get_or r 2 0)
-    → Ok (record { at = t; rssi = z; channel = get_or r 3 0; layout = get_or r 1 0 }, get_or r 12 0) ≡ decode_of r
+pub accepted : (r : List ℕ) (t n : ℕ) (z : ℤ) → legal r ≡ true → t ≡ le_at r 4 8 → z ≡ signed8 (get_or r 2 0) → n ≡ get_or r 12 0
+    → Ok (record { at = t; rssi = z; channel = get_or r 3 0; layout = get_or r 1 0 }, n) ≡ decode_of r
 unfolding decode_of
-accepted r t z e et ez = rw (et, ez, e)
-
--- and what is accepted is the sample of a legal record, with as many I/Q bytes as byte 12 says
-pub decoded : (r : List ℕ) (s : Sample) (n : ℕ) → decode_of r ≡ Ok (s, n) → (legal r ≡ true) × ((s ≡ sample_of r) × (n ≡ get_or r 12 0))
-unfolding decode_of
-decoded r s n e = go (legal r) refl e
-  where
-    go : (b : Bool) → legal r ≡ b → cond {A = Result (Sample × ℕ) Refusal} b (Ok (sample_of r, get_or r 12 0)) (Err Refusal.Form) ≡ Ok (s, n)
-        → (legal r ≡ true) × ((s ≡ sample_of r) × (n ≡ get_or r 12 0))
-    go true l h =
-        let p : ◌≡◌ {A = Sample × ℕ} (sample_of r, get_or r 12 0) (s, n) = cc in
-        (l, (sym (ap (λ q. q.0) p), sym (ap (λ q. q.1) p)))
-    go false l h = cc
+accepted r t n z e et ez en = rw (et, ez, en, e)
 
 module _ (s : Sample) (iq out : List ℕ) where
   module _ (few : length iq ≤ 128) where

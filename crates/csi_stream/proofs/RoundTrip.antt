@@ -48,7 +48,7 @@ is-legal s iq few = simp (le-leb 13 (length (encoded s iq)) (omega arith), le-le
 decode-encode : (s : Sample) (iq : List ℕ) → Sendable s iq → decode_of (encoded s iq) ≡ Ok (s, length iq)
 unfolding encoded
 decode-encode s iq f =
-    sym (accepted (encoded s iq) s.at s.rssi (is-legal s iq f.few) (sym (time-bytes s iq f.time)) (sym (signed-byte s.rssi f.strength)))
+    sym (accepted (encoded s iq) s.at (length iq) s.rssi (is-legal s iq f.few) (sym (time-bytes s iq f.time)) (sym (signed-byte s.rssi f.strength)) refl)
 
 pub encoded-decodes : EncodedDecodes
 encoded-decodes s iq out f room =
@@ -83,7 +83,7 @@ decoded-encodes r out byte e room =
     let total : 13 + length (drop 13 r) ≡ length r = omega (arith, n, t) in
     let w = written (sample_of r) (drop 13 r) out (omega (arith, n, t)) (omega (arith, total, room)) in
     record {
-      accepted = sym (accepted r (le_at r 4 8) (signed8 (get_or r 2 0)) e refl refl) ∙ ap (λ k. Ok (sample_of r, k)) (sym n);
+      accepted = sym (accepted r (le_at r 4 8) (length (drop 13 r)) (signed8 (get_or r 2 0)) e refl refl n);
       written = sym w.0 ∙ ap Ok total;
       bytes = rw (← w.1, encode-legal r byte e, total);
     }

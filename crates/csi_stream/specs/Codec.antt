@@ -1,5 +1,5 @@
--- What decoding and encoding answer, and what encoding leaves (`Sample::decode`, `Sample::iq`, `Sample::encode`). Refusal 3: a malformed
--- sample. Refusal 6: too little space. Assumes nothing.
+-- What decoding and encoding answer, and what encoding leaves (`Sample::decode`, `Sample::iq`, `Sample::encode`). Refused: a malformed
+-- sample, and too little space. Assumes nothing.
 use Rattle.std.specs.Prelude.{Result, Ok, Err, ℕ, ◌+◌, ◌≡◌, List, [], ◌++◌, Bool, true, false, cond, ◌&&◌, length, get_or, drop, ltb, leb, eqb}
 use Rattle.std.specs.Borrow.{Bor}
 use Rattle.refusal.specs.Refusal.{number}
@@ -14,7 +14,8 @@ legal r =
     leb header_len (length r)
     && (eqb (get_or r 0 0) version && (leb (get_or r 12 0) max_iq && eqb (length r) (header_len + get_or r 12 0)))
 
--- the number of document 01's refusal, 0 for none: of a record, and of n I/Q bytes that are to go into m bytes of space. 3 is judged before 6
+-- the number of the refusal (docs/SPEC.md, "Who causes which refusal"), 0 for none: of a record, and of n I/Q bytes that are to go into m
+-- bytes of space. The sample is judged before the space
 abbrev pub decode_refusal : List ℕ → ℕ
 decode_refusal r = cond (legal r) 0 3
 
@@ -24,6 +25,9 @@ encode_refusal n m = cond (ltb max_iq n) 3 (cond (ltb m (header_len + n)) 6 0)
 -- the sample, and how many I/Q bytes follow its header
 unfoldable pub decode_of : List ℕ → Result (Sample × ℕ) Refusal
 decode_of r = cond (legal r) (Ok (sample_of r, get_or r 12 0)) (Err Refusal.Form)
+
+unfoldable pub record_check : List ℕ → Result (Unit {0}) Refusal
+record_check r = cond (legal r) (Ok tt) (Err Refusal.Form)
 
 -- r is the part of s from byte a on: it has those bytes, and lies where they lie, in the same block of memory and a bytes further on
 pub record PartFrom (a : ℕ) (s r : Bor (List ℕ)) : Type 0 where
@@ -46,7 +50,7 @@ unfoldable pub encode_into : Sample → List ℕ → List ℕ → List ℕ
 encode_into s iq out =
     cond (leb (length iq) max_iq && leb (header_len + length iq) (length out)) (encoded s iq ++ drop (header_len + length iq) out) out
 
--- ---- the reason of each error, and the paper's number of an answer, 0 where nothing is refused
+-- ---- the reason of each error, and the number of an answer, 0 where nothing is refused
 abbrev pub reason : EncodeError → Refusal
 reason EncodeError.Form = Refusal.Form
 reason (EncodeError.Space need) = Refusal.Space

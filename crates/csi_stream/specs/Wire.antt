@@ -1,4 +1,4 @@
--- The wire form of a sample, version 1 (document 01, "The sample"): byte 0 the version, 1 the layout tag, 2 the signal strength, 3 the channel,
+-- The wire form of a sample, version 1 (docs/SPEC.md, "The sample"): byte 0 the version, 1 the layout tag, 2 the signal strength, 3 the channel,
 -- 4 to 11 the time, low byte first, 12 the number of I/Q bytes, which follow. Assumes nothing.
 use Rattle.std.specs.Prelude.{ℕ, List, [], ◌∷◌, ◌++◌, length, get_or, drop}
 use Rattle.num.specs.Words.{le_bytes, le_at}

@@ -2,12 +2,13 @@
 #![tactic(auto)]
 
 mod features;
-pub mod steps;
 mod wire;
 
-ghost use Rattle.std.specs.Prelude.{◌≡◌, length};
+ghost use Rattle.std.specs.Prelude.{◌≡◌, ◌≤◌, length, IfOk};
+ghost use Rattle.std.specs.Result.{result_map_both};
 ghost use Rattle.refusal.specs.Refusal.{answered_number};
-ghost use Rattle.csi_stream.specs.Codec.{decode_refusal, encode_refusal, decode_of, IqOf, reason, encode_of, encoded_number, encode_into};
+ghost use Rattle.csi_stream.specs.Codec.{decode_refusal, encode_refusal, decode_of, IqOf, PartFrom, reason, encode_of, encoded_number, encode_into};
+ghost use Rattle.csi_stream.specs.Wire.{header_len, max_iq};
 
 use refusal::Refusal;
 
@@ -57,33 +58,33 @@ impl From<EncodeError> for Refusal {
 }
 
 impl Sample {
-    // Reads a record, the whole of which must be one sample: its numbers, and how many I/Q bytes it has. Any layout tag is taken.
-    #[tactic(auto, using(crate::proofs::Answers::tests), unfolding(crate::specs::Codec::decode_of))]
-    pub fn decode(bytes: &[u8]) -> Result<(Self, u8), Refusal>
-        ensures answer { result ≡ decode_of bytes.now }
+    // Reads a record, the whole of which must be one sample: its numbers, and the part of it from byte 13 on, its I/Q bytes.
+    // Any layout tag is taken.
+    #[tactic(auto, using(crate::proofs::Answers::tests), unfolding(crate::specs::Codec::decode_of, crate::specs::Codec::record_check))]
+    pub fn decode(bytes: &[u8]) -> Result<(Self, &[u8]), Refusal>
+        ensures answer { result_map_both (λ p. (p.0, length p.1.now)) (λ e. e) result ≡ decode_of bytes.now }
         ensures number { answered_number result ≡ decode_refusal bytes.now }
+        ensures part { IfOk result (λ p. PartFrom header_len bytes.entry p.1) }
+        ensures few { IfOk result (λ p. length p.1.now ≤ max_iq) }
     {
-        if wire::is_legal(bytes) {
-            let sample = Sample {
-                at: num::steps::u64_at(bytes, TIME_AT),
-                rssi: num::byte_to_i8(bytes[RSSI_AT]),
-                channel: bytes[CHANNEL_AT],
-                layout: bytes[TAG_AT],
-            };
-            return Ok((sample, bytes[COUNT_AT]));
-        }
-        Err(Refusal::Form)
+        wire::check(bytes)?;
+        let sample = Sample {
+            at: num::steps::word_at(bytes, TIME_AT),
+            rssi: bytes[RSSI_AT].cast_signed(),
+            channel: bytes[CHANNEL_AT],
+            layout: bytes[TAG_AT],
+        };
+        Ok((sample, &bytes[HEADER_LEN..]))
     }
 
-    // The I/Q bytes of a record that decodes: the part of it from byte 13 on. Of any other record, nothing.
-    #[tactic(auto, using(crate::proofs::Answers::tests))]
+    // The I/Q bytes of a record that decodes. Of any other record, nothing.
+    #[tactic(auto, unfolding(crate::specs::Codec::decode_of))]
     pub fn iq(bytes: &[u8]) -> &[u8]
         ensures { IqOf bytes.entry result }
     {
-        if wire::is_legal(bytes) {
-            &bytes[HEADER_LEN..]
-        } else {
-            &bytes[..0]
+        match Sample::decode(bytes) {
+            Ok((_, iq)) => iq,
+            Err(_) => &bytes[..0],
         }
     }
 

@@ -1,45 +1,34 @@
 // The header's tests and its bytes: private to the crate.
-ghost use Rattle.std.specs.Prelude.{◌≡◌};
+ghost use Rattle.std.specs.Prelude.{◌≡◌, true, OnOk};
 ghost use Rattle.csi_stream.specs.Wire.{header_bytes};
-ghost use Rattle.csi_stream.specs.Codec.{legal};
+ghost use Rattle.csi_stream.specs.Codec.{legal, record_check};
 
 use crate::Sample;
+use refusal::Refusal;
 
-// Whether a record is one sample.
-pub(crate) fn is_legal(bytes: &[u8]) -> bool
-    ensures { result ≡ legal bytes.now }
+// Whether a record is one sample: a whole header, the version, and as many I/Q bytes as the header says, at most 128.
+#[tactic(auto, unfolding(crate::specs::Codec::record_check))]
+pub(crate) fn check(bytes: &[u8]) -> Result<(), Refusal>
+    ensures answer { result ≡ record_check bytes.now }
+    ensures legal { OnOk result (legal bytes.now ≡ true) }
 {
-    if bytes.len() < crate::HEADER_LEN {
-        return false;
+    let n = usize::from(*bytes.get(crate::COUNT_AT).ok_or(Refusal::Form)?);
+    if bytes[0] != crate::VERSION || crate::MAX_IQ < n || bytes.len() != crate::HEADER_LEN + n {
+        return Err(Refusal::Form);
     }
-    if bytes[0] != crate::VERSION {
-        return false;
-    }
-    let n = usize::from(bytes[crate::COUNT_AT]);
-    if crate::MAX_IQ < n {
-        return false;
-    }
-    bytes.len() == crate::HEADER_LEN + n
+    Ok(())
 }
 
 // The 13 bytes before n I/Q bytes.
-pub(crate) fn header(s: Sample, n: u8) -> [u8; 13]
+pub(crate) fn header(s: Sample, n: u8) -> [u8; crate::HEADER_LEN]
     ensures { result ≡ header_bytes s n }
 {
-    let at = num::steps::u64_bytes(s.at);
-    [
-        crate::VERSION,
-        s.layout,
-        num::i8_to_byte(s.rssi),
-        s.channel,
-        at[0],
-        at[1],
-        at[2],
-        at[3],
-        at[4],
-        at[5],
-        at[6],
-        at[7],
-        n,
-    ]
+    let mut header = [0; crate::HEADER_LEN];
+    header[0] = crate::VERSION;
+    header[crate::TAG_AT] = s.layout;
+    header[crate::RSSI_AT] = s.rssi.cast_unsigned();
+    header[crate::CHANNEL_AT] = s.channel;
+    num::steps::put_word(&mut header, crate::TIME_AT, s.at);
+    header[crate::COUNT_AT] = n;
+    header
 }

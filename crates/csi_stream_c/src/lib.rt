@@ -54,12 +54,12 @@ pub extern "C" fn csi_decode(
     ensures count { len.new ≡ decoded_len (decode_of bytes.now) len.old }
 {
     match Sample::decode(bytes) {
-        Ok((s, n)) => {
+        Ok((s, iq)) => {
             *at = s.at;
             *rssi = s.rssi;
             *channel = s.channel;
             *layout = s.layout;
-            *len = n;
+            *len = iq.len() as u8;
             0
         }
         Err(reason) => u64::from(reason.number()),

@@ -13,12 +13,19 @@ const FILL: u8 = 0xa5;
 // What a record decodes to: its numbers, or zeros where it is refused.
 fn decoded(rt: &impl Print, bytes: &[u8]) -> io::Result<Sample> {
     match Sample::decode(bytes) {
-        Ok((s, n)) => {
-            print!(rt; "sample {} {} {} {} {n}", s.layout, s.rssi, s.channel, s.at)?;
+        Ok((s, iq)) => {
+            print!(rt;
+                "sample {} {} {} {} {}",
+                s.layout,
+                s.rssi,
+                s.channel,
+                s.at,
+                iq.len()
+            )?;
             Ok(s)
         }
         Err(reason) => {
-            print!(rt; "refused {}", reason.number())?;
+            print!(rt; "{reason}")?;
             Ok(Sample {
                 at: 0,
                 rssi: 0,
@@ -34,7 +41,7 @@ fn encoded(rt: &impl Print, s: Sample, iq: &[u8], size: usize) -> io::Result<()>
     let mut out = [FILL; SPACE];
     match s.encode(iq, &mut out[..size.min(SPACE)]) {
         Ok(total) => print!(rt; " written {total} {}", cases::check(&out)),
-        Err(EncodeError::Form) => print!(rt; " refused {}", Refusal::Form.number()),
+        Err(EncodeError::Form) => print!(rt; " {}", Refusal::Form),
         Err(EncodeError::Space { need }) => print!(rt; " short {need}"),
     }
 }
@@ -49,5 +56,5 @@ fn line(rt: &impl Print, bytes: &[u8]) -> io::Result<()> {
 }
 
 fn main(rt: HostRuntime) -> io::Result<()> {
-    cases::each::<512, _>(&rt, |case| line(&rt, case))
+    cases::steps::each::<512, _>(&rt, |case| line(&rt, case))
 }

@@ -1,12 +1,14 @@
 -- The public calls, for every kind of detector: the tests tell of the statements, and each way through a call meets its contract. Assumes nothing.
-use mathlib.Core.Path.{◌≡◌, refl, sym, ap, ◌∙◌}
-use mathlib.Core.Bool.{Bool, true, false, ◌&&◌}
+use mathlib.Core.Path.{◌≡◌, refl, ap}
+use mathlib.Core.Bool.{Bool, true, false, cond, ◌&&◌}
 use mathlib.Core.List.{List}
-use Prim.Native.Nat.{ℕ, ◌*◌, ◌≤◌, ◌<◌}
+use Prim.Native.Nat.{ℕ, ◌*◌, ◌≤◌}
 use native.Mathlib.Omega.{arith}
 use lib.Dec.{leb, ltb}
 use lib.ListN.{length, replicate}
-use borrow.Author.Tests.{le-leb, lt-leb, eq-eqb, ne_eqb}
+use borrow.Author.Tests.{eq-eqb}
+use Rattle.std.specs.Prelude.{Result, Ok, Err}
+use Rattle.refusal.specs.declared.Refusal.{Refusal}
 use Rattle.num.specs.Tests.{Tells}
 use Rattle.num.proofs.Tests.{tells-iff, tells_both, tells-le, tells-lt}
 use Rattle.window.specs.Window.{max_rows, ring_rows}
@@ -15,11 +17,10 @@ use Rattle.window.proofs.Check.{ring-told}
 use Rattle.window.proofs.Ring.{ring-zero}
 use Rattle.window.proofs.View.{window-none}
 use Rattle.detector.specs.State.{Placed, is_placed, new_state, reset_state}
-use Rattle.detector.specs.Detector.{Kind, Valid, is_valid, Pushes, detector_of, new_detector}
-use Rattle.detector.specs.Calls.{is_window, Clears, Begins, Resets, Keeps, Calls}
+use Rattle.detector.specs.Detector.{Kind, Valid, is_valid, detector_of, new_detector}
+use Rattle.detector.specs.Calls.{is_window, window_check, Clears, Begins, Resets, Keeps, Calls}
 use Rattle.detector.specs.declared.Limits.{Limits}
 use Rattle.detector.specs.declared.State.{State}
-use Rattle.detector.specs.declared.Verdict.{Verdict}
 use Rattle.detector.specs.declared.Verdict.TheVariants.{Warming}
 
 -- Tests
@@ -40,14 +41,6 @@ valid-told K w c s bytes fs gs =
     (λ v. (v.placed, v.ring))
     (tells_both (is_placed w c K.top s) (is_ring K.sums w c bytes fs gs) (placed-told w c K.top s) (ring-told K.sums w c bytes fs gs))
 
--- the range is tested first, then the sums
-module _ (K : Kind) (w c : ℕ) (s : State) (bytes : List ℕ) (fs gs : List K.sums.Number) where
-  pub valid-in-range : is_placed w c K.top s ≡ true → (r : Bool) → r ≡ is_ring K.sums w c bytes fs gs → r ≡ is_valid K w c s bytes fs gs
-  valid-in-range e r er = er ∙ ap (λ (b : Bool). b && is_ring K.sums w c bytes fs gs) (sym e)
-
-  pub valid-out-of-range : is_placed w c K.top s ≡ false → false ≡ is_valid K w c s bytes fs gs
-  valid-out-of-range e = ap (λ (b : Bool). b && is_ring K.sums w c bytes fs gs) (sym e)
-
 -- the size of a window that is one
 pub record Sized (w : ℕ) : Type 0 where
   pub some : 1 ≤ w
@@ -55,6 +48,13 @@ pub record Sized (w : ℕ) : Type 0 where
 
 pub sized : (w : ℕ) → is_window w ≡ true → Sized w
 sized w e = let both = (tells_both (leb 1 w) (leb w max_rows) (tells-le 1 w) (tells-le w max_rows)).0 e in record { some = both.0; small = both.1 }
+
+pub window-passed : (w : ℕ) {u : Unit {0}} → window_check w ≡ Ok u → is_window w ≡ true
+window-passed w {u} e = go (is_window w) refl e
+  where
+    go : (a : Bool) → is_window w ≡ a → ◌≡◌ {A = Result (Unit {0}) Refusal} (cond a (Ok tt) (Err Refusal.Settings)) (Ok u) → is_window w ≡ true
+    go true ea k = ea
+    go false ea k = cc
 
 -- A NEW DETECTOR
 
@@ -69,13 +69,6 @@ unfolding detector_of
 new-view rows = ap (λ (l : List (List ℕ)). record { window = l; wander = 0; present = false; last = 0 }) (window-none 0 0 rows)
 
 module _ (K : Kind) (w c : ℕ) (bytes : List ℕ) where
-  pub new-window : is_window w ≡ false → Begins K w c bytes 1 new_state bytes (replicate c K.sums.none) (replicate c K.sums.none)
-  new-window e = record { number = rw e; state = refl; refused = λ n. (refl, refl, refl); begun = λ z. absurd (omega arith) }
-
-  pub new-length : is_window w ≡ true → (length bytes ≡ 2 * (w * c) → ⊥) → Begins K w c bytes 2 new_state bytes (replicate c K.sums.none) (replicate c K.sums.none)
-  new-length e n =
-      record { number = rw (e, ne_eqb (length bytes) (2 * (w * c)) n); state = refl; refused = λ k. (refl, refl, refl); begun = λ z. absurd (omega arith) }
-
   pub new-begun : is_window w ≡ true → length bytes ≡ 2 * (w * c) → {s : State} → s ≡ new_state → {bytes' : List ℕ} {fs gs : List K.sums.Number} → Clears K w c bytes bytes' fs gs → Begins K w c bytes 0 s bytes' fs gs
   new-begun e whole new clears =
       record { number = rw (e, eq-eqb (length bytes) (2 * (w * c)) whole); state = new; refused = λ n. absurd (n refl); begun = λ z. clears }
@@ -94,14 +87,6 @@ module _ (K : Kind) (w c : ℕ) (bytes : List ℕ) where
 
 module _ (K : Kind) (w c : ℕ) (s : State) (bytes : List ℕ) (fs gs : List K.sums.Number) where
   -- A RESET
-  pub reset-window : is_window w ≡ false → Resets K w c s bytes fs gs 1 s fs gs
-  reset-window e =
-      record { number = rw e; sums = (refl, refl); refused = λ n. refl; state = λ z. absurd (omega arith); valid = λ z. absurd (omega arith); detector = λ z. absurd (omega arith) }
-
-  pub reset-invalid : is_window w ≡ true → is_valid K w c s bytes fs gs ≡ false → Resets K w c s bytes fs gs 2 s fs gs
-  reset-invalid e v =
-      record { number = rw (e, v); sums = (refl, refl); refused = λ n. refl; state = λ z. absurd (omega arith); valid = λ z. absurd (omega arith); detector = λ z. absurd (omega arith) }
-
   pub reset-done : is_window w ≡ true → is_valid K w c s bytes fs gs ≡ true → (s' : State) → s' ≡ reset_state s → Resets K w c s bytes fs gs 0 s' fs gs
   unfolding detector_of
   reset-done e v s' es =
@@ -126,10 +111,3 @@ module _ (K : Kind) (w c : ℕ) (s : State) (bytes : List ℕ) (fs gs : List K.s
 
     pub call-invalid : is_window w ≡ true → is_valid K w c s bytes fs gs ≡ false → Calls K lim w c s bytes fs gs new count now 2 s bytes fs gs Warming
     call-invalid e v = record { number = rw (e, v); refused = λ n. kept; pushed = λ z. absurd (omega arith) }
-
-    pub call-wide : is_window w ≡ true → is_valid K w c s bytes fs gs ≡ true → c < count → Calls K lim w c s bytes fs gs new count now 7 s bytes fs gs Warming
-    call-wide e v h = record { number = rw (e, v, lt-leb count c h); refused = λ n. kept; pushed = λ z. absurd (omega arith) }
-
-    pub call-pushed : is_window w ≡ true → is_valid K w c s bytes fs gs ≡ true → count ≤ c → (s' : State) (bytes' : List ℕ) (fs' gs' : List K.sums.Number) (verdict : Verdict)
-        → Pushes K lim w c s bytes new count now s' bytes' fs' gs' verdict → Calls K lim w c s bytes fs gs new count now 0 s' bytes' fs' gs' verdict
-    call-pushed e v h s' bytes' fs' gs' verdict p = record { number = rw (e, v, le-leb count c h); refused = λ n. absurd (n refl); pushed = λ z. p }

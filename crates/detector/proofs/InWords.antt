@@ -9,8 +9,8 @@ use lib.Dec.{leb, eqb}
 use borrow.Author.Tests.{leb-true, eq-eqb, ne_eqb}
 use Rattle.detector.specs.Verdict.{verdict_tag, motion_of}
 use Rattle.detector.specs.Detector.{Kind, Pushes}
-use Rattle.detector.specs.Calls.{is_window, reset_refusal, push_refusal, Begins, Resets, Calls}
-use Rattle.detector.specs.Words.{is_state, state_of, words_of, words_refusal, BeginsInWords, ResetsInWords, CallsInWords}
+use Rattle.detector.specs.Calls.{is_window, reset_refusal, push_refusal, Resets, Calls}
+use Rattle.detector.specs.Words.{is_state, state_of, words_of, words_refusal, ResetsInWords, CallsInWords}
 use Rattle.detector.specs.declared.Limits.{Limits}
 use Rattle.detector.specs.declared.State.{State}
 use Rattle.detector.specs.declared.Verdict.{Verdict}
@@ -46,22 +46,9 @@ words_back x e =
 
 -- THE CALLS
 
--- what is no state is refused
-some_number : (b : Bool) → ◌≡◌ {A = ℕ} (cond b 2 1) 0 → ⊥
-some_number true z = omega arith
-some_number false z = omega arith
-
 module _ (w : ℕ) (x : Words) where
   number-of-state : is_state x ≡ true → (n : ℕ) → n ≡ words_refusal w x n
   number-of-state e n = ap (λ (b : Bool). cond b n (cond (is_window w) 2 1)) (sym e)
-
-  number-of-none : is_state x ≡ false → (n : ℕ) → cond (is_window w) 2 1 ≡ words_refusal w x n
-  number-of-none e n = ap (λ (b : Bool). cond b n (cond (is_window w) 2 1)) (sym e)
-
-pub begins-in-words : (K : Kind) (w c : ℕ) (bytes : List ℕ) (refusal : ℕ) (s' : State) (x' : Words) (bytes' : List ℕ) (fs gs : List K.sums.Number)
-    → Begins K w c bytes refusal s' bytes' fs gs → x' ≡ words_of s' → BeginsInWords K w c bytes refusal x' bytes' fs gs
-begins-in-words K w c bytes refusal s' x' bytes' fs gs b e =
-    record { state = e ∙ ap words_of b.state; begins = record { number = b.number; state = refl; refused = b.refused; begun = b.begun } }
 
 module _ (K : Kind) (w c : ℕ) (x : Words) (bytes : List ℕ) (fs gs : List K.sums.Number) where
   -- a state s, which a call takes and gives as s'
@@ -112,27 +99,4 @@ module _ (K : Kind) (w c : ℕ) (x : Words) (bytes : List ℕ) (fs gs : List K.s
                 number = et;
                 level = em;
               };
-        }
-
-  -- numbers that are no state's
-  module _ (e : is_state x ≡ false) (refusal : ℕ) (en : refusal ≡ cond (is_window w) 2 1) where
-    none : refusal ≡ 0 → ⊥
-    none z = some_number (is_window w) (sym en ∙ z)
-
-    pub reset-of-none : ResetsInWords K w c x bytes fs gs refusal x fs gs
-    reset-of-none =
-        record {
-          number = en ∙ number-of-none w x e (reset_refusal K w c (state_of x) bytes fs gs);
-          sums = (refl, refl);
-          refused = λ n. refl;
-          words = λ z. absurd (none z);
-          resets = λ z. absurd (none z);
-        }
-
-    pub call-of-none : (lim : Limits) (new : List ℕ) (count now : ℕ) → CallsInWords K lim w c x bytes fs gs new count now refusal x bytes fs gs 0 0
-    call-of-none lim new count now =
-        record {
-          number = en ∙ number-of-none w x e (push_refusal K w c (state_of x) bytes fs gs count);
-          refused = λ n. record { state = refl; memory = refl; firsts = refl; seconds = refl; answer = (refl, refl) };
-          pushed = λ z. absurd (none z);
         }

@@ -1,4 +1,4 @@
--- The public calls of a detector over lent rows (document 01, "Who causes which refusal"): the refusal of each, by number and in the order
+-- The public calls of a detector over lent rows (docs/SPEC.md, "Who causes which refusal"): the refusal of each, by number and in the order
 -- 1, 2, 7, and what every call answers. 0 is no refusal. Assumes nothing.
 use Rattle.std.specs.Prelude.{◌≡◌, Bool, cond, ◌&&◌, List, ℕ, ◌*◌, length, replicate, leb, eqb, Result, Ok, Err}
 use Rattle.refusal.specs.declared.Refusal.{Refusal}

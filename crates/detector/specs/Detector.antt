@@ -1,4 +1,4 @@
--- A detector over a window of frames (document 01, "Presence" and "Phase"), and how a state and a ring in memory stand for it. A frame is the
+-- A detector over a window of frames (csi.rs, phase.rs), and how a state and a ring in memory stand for it. A frame is the
 -- list of its entries. What the wander of a full window is, `wander_of`, is each detector's own; all else is here once. Assumes nothing.
 use Rattle.std.specs.Prelude.{◌≡◌, Bool, false, not, cond, ◌&&◌, List, [], ℕ, length, take, get_or, set, ltb, eqb}
 use Rattle.window.specs.Window.{ring_rows, window_of, push_row, overwrite, width}

@@ -1,4 +1,4 @@
--- A state as a call gave it, with its own window, memory and sums, is taken by the next (document 01, "Who causes which refusal": 2). Assumes nothing.
+-- A state as a call gave it, with its own window, memory and sums, is taken by the next: it is not refused as memory (docs/SPEC.md, "Who causes which refusal"). Assumes nothing.
 use Rattle.std.specs.Prelude.{◌≡◌, cond, List, ℕ, leb}
 use Rattle.detector.specs.Detector.{Kind}
 use Rattle.detector.specs.Calls.{reset_refusal, push_refusal, Begins, Resets, Calls}
@@ -8,7 +8,7 @@ use Rattle.detector.specs.declared.State.{State}
 use Rattle.detector.specs.declared.Verdict.{Verdict}
 use Rattle.detector.specs.declared.Words.{Words}
 
--- `reset` does not refuse it, and `push` only a frame, by 7
+-- `reset` does not refuse it, and `push` only a frame, by its count
 pub record Taken (K : Kind) (w c : ℕ) (s : State) (bytes : List ℕ) (fs gs : List K.sums.Number) : Type 0 where
   pub reset : reset_refusal K w c s bytes fs gs ≡ 0
   pub push : (count : ℕ) → push_refusal K w c s bytes fs gs count ≡ cond (leb count c) 0 7

@@ -1,4 +1,4 @@
--- What a detector concluded (csi.rs, `Verdict`; document 01: `warming`, `absent`, `present`, and the motion, 0 unless present). Assumes nothing.
+-- What a detector concluded (csi.rs, `Verdict`): warming, absent, or present with a motion. Assumes nothing.
 use Rattle.std.specs.Prelude.{ℕ, max}
 use Rattle.detector.specs.declared.Verdict.{Verdict}
 use Rattle.detector.specs.declared.Verdict.TheVariants.{Warming, Absent, Present}

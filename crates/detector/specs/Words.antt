@@ -27,7 +27,7 @@ state_for x = cond (is_state x) (Ok (state_of x)) (Err Refusal.Memory)
 abbrev pub words_of : State → Words
 words_of s = record { count = s.count; filled = s.filled; next = s.next; wander = s.wander; present = cond s.present 1 0; last_motion = s.last_motion }
 
--- numbers that are no state's are refused by 2, behind 1; those of a state as the state is
+-- numbers that stand for no state are refused as memory, behind the window's size; those of a state as the state is
 abbrev pub words_refusal : (w : ℕ) → Words → (refusal : ℕ) → ℕ
 words_refusal w x refusal = cond (is_state x) refusal (cond (is_window w) 2 1)
 

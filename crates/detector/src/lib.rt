@@ -35,8 +35,7 @@ impl Verdict {
         ensures { result ≡ motion_of self }
     {
         match self {
-            Verdict::Warming => 0,
-            Verdict::Absent => 0,
+            Verdict::Warming | Verdict::Absent => 0,
             Verdict::Present { motion } => motion,
         }
     }
@@ -68,7 +67,6 @@ pub struct Limits {
 
 // The state beside the ring and its sums: the columns in use, the rows since the last restart, the slot to write
 // next, the last wander, the verdict, and the time of the last motion.
-#[repr(C)]
 #[derive(Clone, Copy, Debug, PartialEq, Eq, Hash)]
 pub struct State {
     pub count: usize,

@@ -89,7 +89,7 @@ pub fn verdict_now(w: usize, unit: u32, s: State) -> Verdict
     }
 }
 
-// Whether the window has a size that the settings may name: else refusal 1.
+// Whether the window has a size that the settings may name.
 pub fn is_window(w: usize) -> bool
     ensures { result ≡ is_window w }
 {
@@ -106,14 +106,14 @@ pub fn check_window(w: usize) -> Result<(), Refusal>
     Ok(())
 }
 
-// Whether a state is in range over w rows, where no wander is above `top`: else refusal 2.
+// Whether a state is in range over w rows, where no wander is above `top`.
 pub fn in_range(w: usize, top: u32, s: State) -> bool
     ensures { result ≡ is_placed w columns top s }
 {
     s.next < w && s.filled <= w && s.count <= COLUMNS && s.wander <= top
 }
 
-// The state that numbers are.
+// The state that numbers are, where they are known to be one: it cannot fail, as `try_from` can.
 #[tactic(auto, unfolding(crate::specs::Words::state_for))]
 pub fn state_of(words: Words) -> State
     requires { is_state words ≡ true }

@@ -1,4 +1,4 @@
--- A column of the window as a series: what is read round the ring, and that its samples and those prepared have 16 bits. Assumes nothing.
+-- A column of the window as a series: what is read round the ring. Assumes nothing.
 use mathlib.Core.Path.{◌≡◌, sym, ap, ◌∙◌}
 use mathlib.Core.List.{List}
 use Prim.Native.Nat.{ℕ, ◌+◌, ◌-◌, ◌≤◌, ◌<◌}
@@ -14,7 +14,7 @@ use Rattle.window.specs.Words.{words}
 use Rattle.window.proofs.Rows.{length_cut, length-column}
 use Rattle.window.proofs.View.{length-window}
 use Rattle.window.proofs.Round.{column-round}
-use Rattle.vitals.specs.Series.{at, centred, highpassed, prepared}
+use Rattle.vitals.specs.Series.{at}
 use Rattle.estimator.specs.Estimate.{series}
 use Rattle.estimator.specs.Steps.{entry_of}
 
@@ -45,10 +45,3 @@ turn_low k n h = rw (lt-ltb k n h)
 
 pub turn-high : (k n : ℕ) → n ≤ k → turn k n ≡ k - n
 turn-high k n h = rw (le-ltb k n h)
-
--- a prepared column
-pub prepared-plain : (m : ℕ) (x : List ℤ) → m ≤ 1 → prepared m x ≡ centred x
-prepared-plain m x h = rw (le-ltb 1 m h)
-
-pub prepared-passed : (m : ℕ) (x : List ℤ) → 1 < m → prepared m x ≡ highpassed m (centred x)
-prepared-passed m x h = rw (lt-ltb 1 m h)

@@ -9,8 +9,8 @@ use native.Mathlib.Omega.{arith}
 use borrow.Author.Tests.{lt-ltb, le-ltb, ne_eqb, eqb-true, leb-false}
 use lib.Dec.{ltb, eqb}
 use lib.ListN.{length, take, drop, get_or, set, replicate, length-replicate, get_or-replicate, length-map}
-use lib.Seq.{length-take-le, take_at, get_or-take}
-use Rattle.std.specs.Prelude.{None, Some}
+use lib.Seq.{length-take-le, take_at}
+use Rattle.std.specs.Prelude.{Option, None, Some}
 use Rattle.num.specs.Lists.{plus}
 use Rattle.num.proofs.Cond.{cond-holds}
 use Rattle.num.proofs.Each.{at_every}
@@ -26,7 +26,8 @@ use Rattle.estimator.specs.Estimate.{estimate_of}
 use Rattle.estimator.specs.Estimator.{Rhythm, restarted, start_for, with_frame, closed, or_one, due_at, without_estimate, judged, push_frame}
 use Rattle.estimator.specs.State.{rhythm_at, ring_length, restarted_at, begun_at, fed_at, closed_at, rested_at, judged_at, begun_totals, fed_totals, rows_with, judged_by, Took}
 use Rattle.estimator.specs.declared.Progress.{Progress}
-use Rattle.estimator.specs.declared.steps.Stepped.{Stepped}
+use Rattle.estimator.specs.declared.Vitals.{Vitals}
+use Rattle.estimator.specs.declared.VitalsEstimator.{VitalsEstimator}
 use Rattle.estimator.proofs.Facts.{Legal, Bounded, Waiting, InRange, range-tells}
 
 zero-bound : (frames : ℕ) → Bounded frames (replicate columns 0)
@@ -80,7 +81,7 @@ feed-law p acc rows f e h =
 
 -- a block is closed
 close-law : (n : ℕ) (p : Progress) (acc : List ℕ) (rows : List (List ℕ)) → length rows ≡ n → p.next < n → p.filled ≤ n → p.count ≤ columns → length acc ≡ columns
-    → rhythm_at (closed_at n p) (replicate columns 0) (rows_with p acc rows p.count) ≡ closed n (rhythm_at p acc rows)
+    → rhythm_at (closed_at n p) (replicate columns 0) (rows_with p acc rows) ≡ closed n (rhythm_at p acc rows)
 unfolding rhythm_at
 close-law n p acc rows rows_long slot most narrow acc-long =
     let mean : ℕ → ℕ = λ total. total / p.acc_n in
@@ -104,30 +105,32 @@ wait-few : (every n filled since : ℕ) → due_at every n filled since ≡ fals
 wait-few every n filled since e h = leb-false every since (rw (le-ltb filled n h) at e)
 
 -- what a push is given
-pub record Given (cfg : VitalsConfig) (n : ℕ) (p : Progress) (acc bytes amplitude : List ℕ) (count : ℕ) : Type 0 where
+pub record Given (cfg : VitalsConfig) (n : ℕ) (s : VitalsEstimator) (bytes frame : List ℕ) : Type 0 where
   pub legal : Legal cfg n
-  pub range : InRange cfg n p acc
-  pub acc-long : length acc ≡ columns
-  pub wide : count ≤ length amplitude
-  pub narrow : count ≤ columns
+  pub range : InRange cfg n s.progress s.acc
+  pub acc-long : length s.acc ≡ columns
+  pub narrow : length frame ≤ columns
   pub whole : length bytes ≡ ring_length n
 
--- a frame of count columns, as a list, and what it makes of the totals
-module _ (cfg : VitalsConfig) (n time : ℕ) (p : Progress) (acc bytes amplitude : List ℕ) (count : ℕ) (g : Given cfg n p acc bytes amplitude count) where
+-- a frame, and what it makes of the totals
+module _ (cfg : VitalsConfig) (n time : ℕ) (s : VitalsEstimator) (bytes frame : List ℕ) (g : Given cfg n s bytes frame) where
+  abbrev p : Progress
+  p = s.progress
+
+  abbrev acc : List ℕ
+  acc = s.acc
+
   abbrev rows : List (List ℕ)
   rows = ring_rows n columns bytes
 
-  abbrev frame : List ℕ
-  frame = take count amplitude
-
-  frame-long : length (take count amplitude) ≡ count
-  frame-long = length-take-le count amplitude g.wide
+  abbrev count : ℕ
+  count = length frame
 
   abbrev start : Progress
   start = begun_at p count
 
   abbrev totals : List ℕ
-  totals = fed_totals p acc amplitude count
+  totals = fed_totals p acc frame
 
   some : 1 ≤ n
   some = omega (arith, g.legal.least)
@@ -136,7 +139,7 @@ module _ (cfg : VitalsConfig) (n time : ℕ) (p : Progress) (acc bytes amplitude
   from = begun-range cfg n p acc g.range g.acc-long some count g.narrow
 
   -- an empty frame
-  pub took-none : count ≡ 0 → Took cfg n time p acc bytes amplitude count (record { progress = p; answer = None }) acc bytes
+  pub took-none : count ≡ 0 → Took cfg n time s bytes frame None s bytes
   unfolding push_frame
   took-none e = record {
     progress = rw e;
@@ -148,14 +151,14 @@ module _ (cfg : VitalsConfig) (n time : ℕ) (p : Progress) (acc bytes amplitude
   }
 
   -- the totals of a frame more
-  pub fed-bound : ((k : ℕ) → k < count → get_or amplitude k 0 ≤ 65535) → Bounded (start.acc_n + 1) totals
+  pub fed-bound : ((k : ℕ) → get_or frame k 0 ≤ 65535) → Bounded (start.acc_n + 1) totals
   fed-bound small k h =
       let long = begun-long cfg n p acc g.range g.acc-long some count g.narrow in
       omega (
         arith,
         plus-most (start.acc_n * 65535) 65535 (begun_totals p acc count) frame
             (at_every (λ (v : ℕ). v ≤ start.acc_n * 65535) 0 (omega arith) (begun_totals p acc count) (λ j l. from.totals j (omega arith)))
-            (at_every (λ (v : ℕ). v ≤ 65535) 0 (omega arith) frame (λ j l. let in_frame : j < count = omega (arith, frame-long) in rw (get_or-take count amplitude j 0 in_frame) (small j in_frame)))
+            small
             k,
       )
 
@@ -171,18 +174,18 @@ module _ (cfg : VitalsConfig) (n time : ℕ) (p : Progress) (acc bytes amplitude
 
   added-law : added ≡ with_frame (start_for (rhythm_at p acc rows) frame) frame
   added-law =
-      feed-law start (begun_totals p acc count) rows frame (frame-long ∙ sym at_count) (omega (arith, at_count, g.narrow, begun-long cfg n p acc g.range g.acc-long some count g.narrow))
-      ∙ ap (λ (d : Rhythm). with_frame d frame) (begun-law cfg n p acc g.range g.acc-long some count g.narrow rows frame frame-long)
+      feed-law start (begun_totals p acc count) rows frame (sym at_count) (omega (arith, at_count, g.narrow, begun-long cfg n p acc g.range g.acc-long some count g.narrow))
+      ∙ ap (λ (d : Rhythm). with_frame d frame) (begun-law cfg n p acc g.range g.acc-long some count g.narrow rows frame refl)
 
   -- a push, by whether that block is whole
   push-law : (count ≡ 0 → ⊥) → cond (ltb (start.acc_n + 1) (or_one cfg.decim)) (without_estimate added) (judged cfg n time (closed n added)) ≡ push_frame cfg n time (rhythm_at p acc rows) frame
   unfolding push_frame rhythm_at
   push-law not_None =
-      rw (ne_eqb (length frame) 0 (λ z. not_None (sym frame-long ∙ z)))
+      rw (ne_eqb (length frame) 0 not_None)
       (ap (λ (d : Rhythm). cond (ltb d.frames (or_one cfg.decim)) (without_estimate d) (judged cfg n time (closed n d))) added-law)
 
   pub took-open : (count ≡ 0 → ⊥) → Bounded (start.acc_n + 1) totals → start.acc_n + 1 < or_one cfg.decim
-      → Took cfg n time p acc bytes amplitude count (record { progress = fed_at start; answer = None }) totals bytes
+      → Took cfg n time s bytes frame None (record { progress = fed_at start; acc = totals }) bytes
   took-open not_None bound still = record {
     progress = rw (ne_eqb count 0 not_None, lt-ltb (start.acc_n + 1) (or_one cfg.decim) still);
     totals = rw (ne_eqb count 0 not_None, lt-ltb (start.acc_n + 1) (or_one cfg.decim) still);
@@ -209,7 +212,7 @@ module _ (cfg : VitalsConfig) (n time : ℕ) (p : Progress) (acc bytes amplitude
 
   -- A whole block: its means are written, and an estimate is made if one is due
   module _ (not_None : count ≡ 0 → ⊥) (full : or_one cfg.decim ≤ start.acc_n + 1) (bytes' : List ℕ) (whole' : length bytes' ≡ ring_length n)
-      (written : ring_rows n columns bytes' ≡ rows_with (fed_at start) totals rows count)
+      (written : ring_rows n columns bytes' ≡ rows_with (fed_at start) totals rows)
     where
       abbrev now : Progress
       now = closed_at n (fed_at start)
@@ -222,7 +225,7 @@ module _ (cfg : VitalsConfig) (n time : ℕ) (p : Progress) (acc bytes amplitude
 
       closing : judged cfg n time (rhythm_at now (replicate columns 0) rows') ≡ push_frame cfg n time (rhythm_at p acc rows) frame
       closing =
-          ap (λ (r : List (List ℕ)). judged cfg n time (rhythm_at now (replicate columns 0) r)) (written ∙ ap (rows_with (fed_at start) totals rows) (sym at_count))
+          ap (λ (r : List (List ℕ)). judged cfg n time (rhythm_at now (replicate columns 0) r)) written
           ∙ ap (judged cfg n time) (close-law n (fed_at start) totals rows (length_cut n columns (words bytes)) from.slot from.most from.narrow totals-long)
           ∙ (rw (le-ltb (start.acc_n + 1) (or_one cfg.decim) full) at (push-law not_None))
 
@@ -241,30 +244,29 @@ module _ (cfg : VitalsConfig) (n time : ℕ) (p : Progress) (acc bytes amplitude
       abbrev due : Bool
       due = due_at (or_one cfg.update_every) n now.filled now.since_update
 
-      took : (r : Stepped) → r.progress ≡ judged_at cfg n now → InRange cfg n r.progress (replicate columns 0)
-          → record { after = rhythm_at r.progress (replicate columns 0) rows'; answer = r.answer } ≡ judged cfg n time (rhythm_at now (replicate columns 0) rows')
-          → Took cfg n time p acc bytes amplitude count r (replicate columns 0) bytes'
-      took r e in-range s = record {
+      took : (q : Progress) (answer : Option Vitals) → q ≡ judged_at cfg n now → InRange cfg n q (replicate columns 0)
+          → record { after = rhythm_at q (replicate columns 0) rows'; answer = answer } ≡ judged cfg n time (rhythm_at now (replicate columns 0) rows')
+          → Took cfg n time s bytes frame answer (record { progress = q; acc = replicate columns 0 }) bytes'
+      took q answer e in-range law = record {
         progress = e ∙ rw (ne_eqb count 0 not_None, le-ltb (start.acc_n + 1) (or_one cfg.decim) full);
         totals = rw (ne_eqb count 0 not_None, le-ltb (start.acc_n + 1) (or_one cfg.decim) full);
         rows = written ∙ rw (ne_eqb count 0 not_None, le-ltb (start.acc_n + 1) (or_one cfg.decim) full);
         whole = whole';
-        range = (range-tells cfg n r.progress (replicate columns 0)).1 in-range;
-        step = s ∙ closing;
+        range = (range-tells cfg n q (replicate columns 0)).1 in-range;
+        step = law ∙ closing;
       }
 
       all : due ≡ true → now.filled ≡ n
       all e = omega (arith, due-full (or_one cfg.update_every) n now.filled now.since_update e)
 
-      due-law : due ≡ true → record { after = rhythm_at (rested_at now) (replicate columns 0) rows'; answer = Some (estimate_of cfg time (window_of now.next n count rows')) } ≡ judged cfg n time (rhythm_at now (replicate columns 0) rows')
+      due-law : due ≡ true → record { after = rhythm_at (rested_at now) (replicate columns 0) rows'; answer = Some (estimate_of cfg time (window_of now.next n now.count rows')) } ≡ judged cfg n time (rhythm_at now (replicate columns 0) rows')
       unfolding rhythm_at
       due-law e =
-          ap (λ (k : ℕ). record { after = rhythm_at (rested_at now) (replicate columns 0) rows'; answer = Some (estimate_of cfg time (window_of now.next k count rows')) }) (sym (all e))
-          ∙ ap (λ (k : ℕ). record { after = rhythm_at (rested_at now) (replicate columns 0) rows'; answer = Some (estimate_of cfg time (window_of now.next now.filled k rows')) }) (sym at_count)
+          ap (λ (k : ℕ). record { after = rhythm_at (rested_at now) (replicate columns 0) rows'; answer = Some (estimate_of cfg time (window_of now.next k now.count rows')) }) (sym (all e))
           ∙ rw (blocks-long, e)
 
-      took-due : due ≡ true → Took cfg n time p acc bytes amplitude count (record { progress = rested_at now; answer = Some (estimate_of cfg time (window_of now.next n count rows')) }) (replicate columns 0) bytes'
-      took-due e = took _ (rw e) (ranged 0 (record { filling = λ h. absurd (omega (arith, all e)); full = λ h. omega arith })) (due-law e)
+      took-due : due ≡ true → Took cfg n time s bytes frame (Some (estimate_of cfg time (window_of now.next n now.count rows'))) (record { progress = rested_at now; acc = replicate columns 0 }) bytes'
+      took-due e = took _ _ (rw e) (ranged 0 (record { filling = λ h. absurd (omega (arith, all e)); full = λ h. omega arith })) (due-law e)
 
       wait-law : due ≡ false → record { after = rhythm_at now (replicate columns 0) rows'; answer = None } ≡ judged cfg n time (rhythm_at now (replicate columns 0) rows')
       unfolding rhythm_at
@@ -273,12 +275,12 @@ module _ (cfg : VitalsConfig) (n time : ℕ) (p : Progress) (acc bytes amplitude
       filling : now.filled < n → now.since_update ≡ now.filled
       filling h = omega (arith, from.since.filling (omega arith))
 
-      took-wait : due ≡ false → Took cfg n time p acc bytes amplitude count (record { progress = now; answer = None }) (replicate columns 0) bytes'
-      took-wait e = took _ (rw e) (ranged now.since_update (record { filling = filling; full = λ h. wait-few (or_one cfg.update_every) n now.filled now.since_update e h })) (wait-law e)
+      took-wait : due ≡ false → Took cfg n time s bytes frame None (record { progress = now; acc = replicate columns 0 }) bytes'
+      took-wait e = took _ _ (rw e) (ranged now.since_update (record { filling = filling; full = λ h. wait-few (or_one cfg.update_every) n now.filled now.since_update e h })) (wait-law e)
 
-      pub took-closed : Took cfg n time p acc bytes amplitude count (judged_by cfg n time now count rows') (replicate columns 0) bytes'
+      pub took-closed : Took cfg n time s bytes frame (judged_by cfg n time now rows') (record { progress = judged_at cfg n now; acc = replicate columns 0 }) bytes'
       took-closed = go due refl
         where
-          go : (b : Bool) → due ≡ b → Took cfg n time p acc bytes amplitude count (cond b (record { progress = rested_at now; answer = Some (estimate_of cfg time (window_of now.next n count rows')) }) (record { progress = now; answer = None })) (replicate columns 0) bytes'
+          go : (b : Bool) → due ≡ b → Took cfg n time s bytes frame (cond b (Some (estimate_of cfg time (window_of now.next n now.count rows'))) None) (record { progress = cond b (rested_at now) now; acc = replicate columns 0 }) bytes'
           go true e = took-due e
           go false e = took-wait e

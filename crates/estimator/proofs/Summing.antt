@@ -1,19 +1,18 @@
 -- The columns' correlations as they are added, one column a turn. Assumes nothing.
-use mathlib.Core.Path.{◌≡◌, refl, sym, ap, ◌∙◌}
+use mathlib.Core.Path.{◌≡◌, sym, ap, ◌∙◌}
 use mathlib.Core.List.{List, [], ◌∷◌, ◌++◌, map}
-use Prim.Native.Nat.{ℕ, zero, suc, ◌+◌, ◌*◌, ◌≤◌, ◌<◌}
+use Prim.Native.Nat.{ℕ, zero, suc, ◌+◌, ◌*◌, ◌≤◌}
 use native.Mathlib.Numerals.{add-one}
 use native.Mathlib.Decide.{ℕ_discrete}
 use native.Mathlib.Omega.{arith}
 use borrow.Author.Tests.{lt-ltb, le-ltb}
 use lib.Dec.{ltb}
 use lib.ListN.{length, length-append}
-use lib.Seq.{ext_get_or}
 use lib.IntN.{ℤ, pos, ◌+ℤ◌}
 use Rattle.num.specs.Lists.{build, keep}
 use Rattle.num.specs.Sum.{sum_z}
 use Rattle.num.proofs.Abs.{abs-zero}
-use Rattle.num.proofs.Lists.{length-build, at-build, build-more, keep-yes, keep-no}
+use Rattle.num.proofs.Lists.{at-build, build-more, keep-yes, keep-no}
 use Rattle.num.proofs.SumZ.{sum-map-snoc}
 use Rattle.window.specs.Window.{columns, ring_rows, window_of, width}
 use Rattle.window.specs.Words.{words}
@@ -33,14 +32,18 @@ so_far m blocks sc = rhythmic (build sc (λ j. prepared m (series blocks j)))
 pub record Summing (m : ℕ) (blocks : List (List ℕ)) (hi sc used : ℕ) (s : List ℤ) : Type 0 where
   pub count : used ≡ length (so_far m blocks sc)
   pub most : used ≤ sc
-  pub size : Within (2000 * used) s
   pub first : at s 0 ≡ pos 0
   pub each : (k : ℕ) → 1 ≤ k → k ≤ hi + 1 → at s k ≡ sum_z (map (λ x. corr_of x k) (so_far m blocks sc))
 
 module _ (m : ℕ) (blocks : List (List ℕ)) (hi : ℕ) where
-  pub begun : (s : List ℤ) → Within 0 s → Summing m blocks hi 0 0 s
+  pub begun : (used : ℕ) (s : List ℤ) → used ≡ 0 → Within (2000 * used) s → Summing m blocks hi 0 used s
   unfolding build keep sum_z
-  begun s h = record { count = refl; most = omega arith; size = h; first = abs-zero (at s 0) (h 0); each = λ k a b. abs-zero (at s k) (h k) }
+  begun used s e h = record {
+    count = e;
+    most = omega arith;
+    first = abs-zero (at s 0) (omega (arith, h 0));
+    each = λ k a b. abs-zero (at s k) (omega (arith, h k));
+  }
 
   module _ (sc used r : ℕ) (s t : List ℤ) (inv : Summing m blocks hi sc used s) (joined : Joined (prepared m (series blocks sc)) (hi + 1) used s r t) where
     x : List ℤ
@@ -65,7 +68,6 @@ module _ (m : ℕ) (blocks : List (List ℕ)) (hi : ℕ) where
         rw (same.0, same.1) (record {
           count = inv.count ∙ ap length (sym (without e));
           most = omega (arith, inv.most);
-          size = inv.size;
           first = inv.first;
           each = λ k a b. inv.each k a b ∙ ap (λ (xs : List (List ℤ)). sum_z (map (λ x. corr_of x k) xs)) (sym (without e));
         })
@@ -77,7 +79,6 @@ module _ (m : ℕ) (blocks : List (List ℕ)) (hi : ℕ) where
         record {
           count = more.0 ∙ omega (arith, inv.count, ap length (with-energy g), length-append (so_far m blocks sc) (x ∷ []));
           most = omega (arith, inv.most, more.0);
-          size = joined.size;
           first = more.1.first ∙ inv.first;
           each = λ k a b. more.1.each k a b ∙ ap (λ (z : ℤ). z +ℤ corr_of x k) (inv.each k a b)
               ∙ sym (ap (λ (xs : List (List ℤ)). sum_z (map (λ x. corr_of x k) xs)) (with-energy g) ∙ sum-map-snoc (λ x. corr_of x k) (so_far m blocks sc) x);
@@ -92,16 +93,11 @@ module _ (m : ℕ) (blocks : List (List ℕ)) (hi : ℕ) where
         go (no g) = some g
 
   -- all columns are in
-  pub finish : (n used : ℕ) (s : List ℤ) → length s ≡ hi + 2 → Summing m blocks hi n used s → s ≡ curve (so_far m blocks n) hi
+  pub finish : (n used : ℕ) (s : List ℤ) → Summing m blocks hi n used s → (k : ℕ) → k ≤ hi + 1 → at s k ≡ at (curve (so_far m blocks n) hi) k
   unfolding curve
-  finish n used s l h =
-      let F : ℕ → ℤ = λ k. sum_z (map (λ x. corr_of x (suc k)) (so_far m blocks n)) in
-      let e : length (build (hi + 1) F) ≡ hi + 1 = length-build (hi + 1) F in
-      ext_get_or (pos 0) s (pos 0 ∷ build (hi + 1) F) (omega arith) (λ k b. go k (omega arith))
-    where
-      go : (k : ℕ) → k < hi + 2 → at s k ≡ at (pos 0 ∷ build (hi + 1) (λ k. sum_z (map (λ x. corr_of x (suc k)) (so_far m blocks n)))) k
-      go zero b = h.first
-      go (suc k) b = h.each (suc k) (omega arith) (omega arith) ∙ sym (at-build (hi + 1) (λ k. sum_z (map (λ x. corr_of x (suc k)) (so_far m blocks n))) k (pos 0) (omega arith))
+  finish n used s h zero b = h.first
+  finish n used s h (suc k) b =
+      h.each (suc k) (omega arith) b ∙ sym (at-build (hi + 1) (λ k. sum_z (map (λ x. corr_of x (suc k)) (so_far m blocks n))) k (pos 0) (omega arith))
 
 -- the columns of a full window
 module _ (n next count : ℕ) (bytes : List ℕ) (whole : length bytes ≡ 2 * (n * columns)) (some : 1 ≤ n) (narrow : count ≤ columns) where

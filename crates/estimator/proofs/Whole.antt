@@ -1,11 +1,11 @@
 -- The estimate from its parts. Assumes nothing.
 use mathlib.Core.Path.{◌≡◌, refl}
 use mathlib.Core.List.{List}
-use Prim.Native.Nat.{ℕ, zero, suc, ◌+◌, ◌≤◌, ◌<◌}
+use Prim.Native.Nat.{ℕ, ◌+◌, ◌-◌, ◌≤◌, ◌<◌}
 use native.Mathlib.Omega.{arith}
 use borrow.Author.Tests.{lt-ltb, le-ltb, le-leb, lt-leb, eq-eqb, ne_eqb}
-use lib.ListN.{length, take, replicate}
-use lib.IntN.{ℤ, pos}
+use lib.ListN.{length}
+use lib.IntN.{ℤ}
 use Rattle.window.specs.Window.{columns, ring_rows, window_of}
 use Rattle.window.specs.Words.{words}
 use Rattle.window.proofs.Rows.{length_cut}
@@ -13,8 +13,16 @@ use Rattle.window.proofs.View.{length-window}
 use Rattle.vitals.specs.Series.{at}
 use Rattle.vitals.specs.Correlation.{curve}
 use Rattle.vitals.specs.Peak.{best_lag}
+use Rattle.vitals.proofs.Peaks.{best-inside, best-same}
 use Rattle.vitals.specs.declared.config.VitalsConfig.{VitalsConfig}
 use Rattle.estimator.specs.Estimate.{empty_at, read_at, rhythm_of, columns_of, lowest, longest, estimate_of}
+
+-- what is read from sums that are the same up to the lag hi + 1
+pub read-same : (cfg : VitalsConfig) (time lo hi used : ℕ) (s t : List ℤ) → 2 ≤ hi → ((k : ℕ) → k ≤ hi + 1 → at s k ≡ at t k)
+    → read_at cfg time lo hi used s (best_lag s hi) ≡ read_at cfg time lo hi used t (best_lag t hi)
+read-same cfg time lo hi used s t h same =
+    let b = best_lag t hi in let i = best-inside t hi h in
+    rw (best-same s t hi same h, same (b - 1) (omega (arith, i.1)), same b (omega (arith, i.1)), same (b + 1) (omega (arith, i.1))) refl
 
 module _ (cfg : VitalsConfig) (time lo hi : ℕ) (xs : List (List ℤ)) where
   pub rhythm-none : length xs ≡ 0 → empty_at time ≡ rhythm_of cfg time lo hi xs
@@ -42,11 +50,3 @@ module _ (cfg : VitalsConfig) (time n : ℕ) (blocks : List (List ℕ)) (long : 
 
 pub full-long : (n next count : ℕ) (bytes : List ℕ) → length (window_of next n count (ring_rows n columns bytes)) ≡ n
 full-long n next count bytes = length-window next n count (ring_rows n columns bytes) (omega (arith, length_cut n columns (words bytes)))
-
--- a part of zeros
-pub zero-part : (k n m : ℕ) → at (take m (replicate n (pos 0))) k ≡ pos 0
-zero-part k zero zero = refl
-zero-part k zero (suc m) = refl
-zero-part k (suc n) zero = refl
-zero-part zero (suc n) (suc m) = refl
-zero-part (suc k) (suc n) (suc m) = zero-part k n m

@@ -1,13 +1,13 @@
 -- What the public calls answer on every input: `new`, `push` and `reset` of vitals.rs with their refusals. Assumes nothing.
-use Rattle.std.specs.Prelude.{◌≡◌, Bool, cond, ◌&&◌, List, ℕ, eqb, leb, length, replicate, Result, Ok, Err, IfOk}
+use Rattle.std.specs.Prelude.{◌≡◌, Bool, cond, ◌&&◌, List, ℕ, eqb, leb, length, take, replicate, Option, Result, Ok, Err, IfOk}
 use Rattle.refusal.specs.Refusal.{answered_number}
 use Rattle.refusal.specs.declared.Refusal.{Refusal}
 use Rattle.refusal.specs.declared.Refusal.TheVariants.{Settings, Memory}
 use Rattle.window.specs.Window.{columns}
 use Rattle.vitals.specs.declared.config.VitalsConfig.{VitalsConfig}
 use Rattle.estimator.specs.State.{legal, in_range, ring_length, restarted_at, Took}
+use Rattle.estimator.specs.declared.Vitals.{Vitals}
 use Rattle.estimator.specs.declared.VitalsEstimator.{VitalsEstimator}
-use Rattle.estimator.specs.declared.Pushed.{Pushed}
 
 -- a new estimator
 abbrev pub new_state : VitalsEstimator
@@ -44,8 +44,8 @@ new_answer cfg n bytes = cond (legal cfg n) (cond (fits n bytes) (Ok new_state) 
 abbrev pub reset_answer : VitalsConfig → ℕ → VitalsEstimator → List ℕ → Result VitalsEstimator Refusal
 reset_answer cfg n s bytes = cond (legal cfg n) (cond (valid cfg n s bytes) (Ok new_state) (Err Memory)) (Err Settings)
 
--- `push`: its number; refused, the rows are as they were; else what a frame taken makes
-pub record Tried (cfg : VitalsConfig) (n time : ℕ) (s : VitalsEstimator) (bytes amplitude : List ℕ) (count : ℕ) (bytes' : List ℕ) (r : Result Pushed Refusal) : Type 0 where
+-- `push`: its number; refused, the state and the rows are as they were; else what a frame taken makes
+pub record Tried (cfg : VitalsConfig) (n time : ℕ) (s : VitalsEstimator) (bytes amplitude : List ℕ) (count : ℕ) (r : Result (Option Vitals) Refusal) (s' : VitalsEstimator) (bytes' : List ℕ) : Type 0 where
   pub refusal : answered_number r ≡ push_refusal cfg n s bytes count
-  pub refused : (push_refusal cfg n s bytes count ≡ 0 → ⊥) → bytes' ≡ bytes
-  pub taken : IfOk r (λ p. Took cfg n time s.progress s.acc bytes amplitude count (record { progress = p.state.progress; answer = p.answer }) p.state.acc bytes')
+  pub refused : (push_refusal cfg n s bytes count ≡ 0 → ⊥) → (s' ≡ s) × (bytes' ≡ bytes)
+  pub taken : IfOk r (λ answer. Took cfg n time s bytes (take count amplitude) answer s' bytes')

@@ -1,16 +1,18 @@
 // A column of the window: read from the ring, prepared, and its correlations added to the sums (vitals.rs, `estimate`).
-ghost use Rattle.std.specs.Prelude.{◌≡◌, ◌+◌, ◌*◌, ◌≤◌, ◌<◌, length, get_or, pos};
+ghost use Rattle.std.specs.Prelude.{◌≡◌, ℕ, ◌+◌, ◌*◌, ◌≤◌, ◌<◌, length, get_or, pos};
 ghost use Rattle.num.specs.Wrap.{wrap16};
 ghost use Rattle.window.specs.Window.{columns};
 ghost use Rattle.window.specs.Words.{words};
-ghost use Rattle.vitals.specs.Series.{prepared};
+ghost use Rattle.vitals.specs.Series.{at, prepared};
 ghost use Rattle.vitals.specs.Correlation.{curve};
-ghost use Rattle.vitals.specs.Steps.{Within, Joined};
+ghost use Rattle.vitals.specs.Steps.{Joined};
 ghost use Rattle.estimator.specs.Estimate.{series, columns_of};
 ghost use Rattle.estimator.specs.Steps.{Read, blocks_in};
 
 use crate::view::View;
+use vitals::band::Lags;
 use vitals::steps::padded::Padded;
+use vitals::steps::summed::Summed;
 use window::COLUMNS;
 
 // The entry `at`, a signed number.
@@ -42,46 +44,41 @@ fn read_column(view: View<'_>, sc: usize, out: &mut Padded)
     read_slots(view.rows, 0, view.next, sc, out, older);
 }
 
-// The column `sc`, prepared, and its correlations added to the sums of `used` columns; `a` and `b` are room to work in.
+// The column `sc`, prepared, and its correlations added to the sums; `a` and `b` are room to work in.
 fn add_column(
     view: View<'_>,
     sc: usize,
     m: usize,
     a: &mut Padded,
     b: &mut Padded,
-    summed: &mut [i32],
-    hi: usize,
-    used: usize,
-) -> usize
+    summed: &mut Summed,
+)
     requires n_bound { (sc < view.count) × (length a.old ≡ view.n) × (length b.old ≡ view.n) }
-    requires hi_bound { (hi + 1 < view.n) × (hi + 2 ≤ length summed.old) × (used < columns) × Within (2000 * used) summed.old }
-    ensures { Joined (prepared m (series (blocks_in view.entry) sc)) (hi + 1) used summed.old result summed.new × (length a.new ≡ view.entry.n) × (length b.new ≡ view.entry.n) }
+    requires sums { (summed.old.lags.hi + 1 < view.n) × (summed.old.used ≤ sc) }
+    ensures joined { Joined (prepared m (series (blocks_in view.entry) sc)) (summed.old.lags.hi + 1) summed.old.used summed.old.by_lag summed.new.used summed.new.by_lag × (summed.new.lags ≡ summed.old.lags) }
+    ensures long { (length a.new ≡ view.entry.n) × (length b.new ≡ view.entry.n) }
 {
     read_column(view, sc, a);
-    b.centre_of(a);
+    a.centre();
     if 1 < m {
-        a.highpass_of(b, m);
-        return a.add_to(summed, hi, used);
+        b.highpass_of(a, m);
+        summed.add(b);
+        return;
     }
-    b.add_to(summed, hi, used)
+    summed.add(a);
 }
 
-// The same of all columns; how many have energy.
-pub(crate) fn add_columns(
-    view: View<'_>,
-    m: usize,
-    a: &mut Padded,
-    b: &mut Padded,
-    summed: &mut [i32],
-    hi: usize,
-) -> usize
-    requires le_n { (length a.old ≡ view.n) × (length b.old ≡ view.n) }
-    requires hi_bound { (hi + 1 < view.n) × (length summed.old ≡ hi + 2) × Within 0 summed.old }
-    ensures { (result ≡ length (columns_of m (blocks_in view.entry))) × (result ≤ columns) × Within (2000 * result) summed.new × (summed.new ≡ curve (columns_of m (blocks_in view.entry)) hi) }
+// The correlations of all columns, summed.
+pub(crate) fn sum_columns(view: View<'_>, m: usize, lags: Lags) -> Summed
+    requires { (2 ≤ lags.hi) × (lags.hi ≤ 127) × (lags.hi + 1 < view.n) }
+    ensures count { (result.lags ≡ lags) × (result.used ≡ length (columns_of m (blocks_in view.entry))) }
+    ensures sums { (k : ℕ) → k ≤ lags.hi + 1 → at result.by_lag k ≡ at (curve (columns_of m (blocks_in view.entry)) lags.hi) k }
 {
-    let mut used: usize = 0;
+    let mut a = Padded::zeros(view.n);
+    let mut b = Padded::zeros(view.n);
+    let mut summed = Summed::new(lags);
     for sc in 0..view.count {
-        used = add_column(view, sc, m, a, b, summed, hi, used);
+        add_column(view, sc, m, &mut a, &mut b, &mut summed);
     }
-    used
+    summed
 }

@@ -3,24 +3,17 @@ ghost use Rattle.std.specs.Prelude.{◌≡◌, true, ◌+◌, ◌≤◌, ◌<◌
 ghost use Rattle.window.specs.Window.{columns, ring_rows};
 ghost use Rattle.vitals.specs.Band.{usable};
 ghost use Rattle.vitals.specs.Peak.{best_lag};
-ghost use Rattle.vitals.specs.Steps.{most_summed, Within};
 ghost use Rattle.estimator.specs.Estimate.{empty_at, read_at, rhythm_of, columns_of, estimate_of};
 ghost use Rattle.estimator.specs.Estimator.{due_at, or_one};
 ghost use Rattle.estimator.specs.Steps.{blocks_in};
-ghost use Rattle.estimator.specs.State.{legal, ring_length, rested_at, judged_by};
+ghost use Rattle.estimator.specs.State.{ring_length, judged_at, judged_by};
 
-use crate::steps::Stepped;
+use crate::steps::{Plan, at_least_one};
 use crate::view::View;
-use crate::{Progress, Vitals};
+use crate::{Progress, Vitals, VitalsEstimator};
 use vitals::band::Lags;
 use vitals::config::VitalsConfig;
-use vitals::steps::padded::Padded;
-
-// The most lags that are summed: 1 to hi + 1.
-const MAX_LAGS: usize = 128;
-
-// Room for the summed correlations, by lag.
-const LAG_ROOM: usize = MAX_LAGS + 1;
+use vitals::steps::summed::{MAX_LAGS, Summed};
 
 // No rate, no confidence.
 fn empty(time: u64) -> Vitals
@@ -36,43 +29,43 @@ fn empty(time: u64) -> Vitals
 }
 
 // What is read from the summed correlations.
-fn read_off(summed: &[i32], config: VitalsConfig, time: u64, lags: Lags, used: usize) -> Vitals
-    requires { (2 ≤ lags.hi) × (lags.hi ≤ 127) × (lags.hi + 1 < length summed.now) × Within most_summed summed.now × (1 ≤ used) × (used ≤ columns) × (config.rate_hz ≤ 1000) }
-    ensures { result ≡ read_at config time lags.lo lags.hi used summed.now (best_lag summed.now lags.hi) }
+fn read_off(summed: &Summed, config: VitalsConfig, time: u64) -> Vitals
+    requires { (1 ≤ summed.now.used) × (config.rate_hz ≤ 1000) }
+    ensures { result ≡ read_at config time summed.now.lags.lo summed.now.lags.hi summed.now.used summed.now.by_lag (best_lag summed.now.by_lag summed.now.lags.hi) }
 {
-    let best = vitals::steps::peak::best_lag(summed, lags.hi);
-    let confidence = vitals::steps::rate::confidence_of(summed[best], used);
-    let delta = vitals::steps::rate::delta_x16(summed[best - 1], summed[best], summed[best + 1]);
+    let best = summed.best_lag();
+    let top = summed.by_lag[best];
+    let confidence = vitals::steps::rate::confidence_of(top, summed.used);
+    let delta = vitals::steps::rate::delta_x16(
+        summed.by_lag[best - 1],
+        top,
+        summed.by_lag[best + 1],
+    );
     let lag = vitals::steps::rate::refined_lag(best, delta);
     Vitals {
         bpm_x10: vitals::steps::rate::bpm_x10(config.rate_hz, lag),
         confidence,
         lag_x16: lag,
-        accepted: vitals::steps::rate::is_accepted(lags, best, confidence, config.accept_permille),
+        accepted: vitals::steps::rate::is_accepted(
+            summed.lags,
+            best,
+            confidence,
+            config.accept_permille,
+        ),
         at: time,
     }
 }
 
-// The estimate over the columns; `a`, `b` and `summed` are room to work in.
-fn over_columns(
-    view: View<'_>,
-    config: VitalsConfig,
-    time: u64,
-    lags: Lags,
-    a: &mut Padded,
-    b: &mut Padded,
-    summed: &mut [i32],
-) -> Vitals
-    requires le_n { (length a.old ≡ view.n) × (length b.old ≡ view.n) }
-    requires le_hi { (2 ≤ lags.hi) × (lags.hi ≤ 127) × (lags.hi + 1 < view.n) × (length summed.old ≡ lags.hi + 2) × Within 0 summed.old × (config.rate_hz ≤ 1000) }
+// The estimate over the columns.
+fn over_columns(view: View<'_>, config: VitalsConfig, time: u64, lags: Lags) -> Vitals
+    requires { (2 ≤ lags.hi) × (lags.hi ≤ 127) × (lags.hi + 1 < view.n) × (config.rate_hz ≤ 1000) }
     ensures { result ≡ rhythm_of config time lags.lo lags.hi (columns_of config.highpass (blocks_in view.entry)) }
 {
-    let m = config.highpass as usize;
-    let used = crate::column::add_columns(view, m, a, b, summed, lags.hi);
-    if used == 0 {
+    let summed = crate::column::sum_columns(view, config.highpass as usize, lags);
+    if summed.used == 0 {
         return empty(time);
     }
-    read_off(summed, config, time, lags, used)
+    read_off(&summed, config, time)
 }
 
 // The estimate over a full window.
@@ -86,63 +79,32 @@ fn estimate(view: View<'_>, config: VitalsConfig, time: u64) -> Vitals
     if hi <= lo || MAX_LAGS < hi + 1 {
         return empty(time);
     }
-    let mut a = Padded::zeros(view.n);
-    let mut b = Padded::zeros(view.n);
-    let mut summed = [0i32; LAG_ROOM];
-    over_columns(
-        view,
-        config,
-        time,
-        Lags { lo, hi },
-        &mut a,
-        &mut b,
-        &mut summed[..hi + 2],
-    )
+    over_columns(view, config, time, Lags { lo, hi })
 }
 
 // The window is full, and enough blocks have come since the last estimate.
-fn is_due(every: u32, n: usize, progress: Progress) -> bool
-    ensures { result ≡ due_at every n progress.filled progress.since_update }
+fn is_due(plan: Plan, progress: Progress) -> bool
+    ensures { result ≡ due_at (or_one plan.config.update_every) plan.n progress.filled progress.since_update }
 {
-    n <= progress.filled && every <= progress.since_update
+    plan.n <= progress.filled && at_least_one(plan.config.update_every) <= progress.since_update
 }
 
-fn rested(progress: Progress) -> Progress
-    ensures { result ≡ rested_at progress }
-{
-    Progress {
-        since_update: 0,
-        ..progress
-    }
-}
-
-// An estimate, if one is due after a block.
-pub(crate) fn judge(
-    rows: &[u8],
-    n: usize,
-    config: VitalsConfig,
-    progress: Progress,
-    every: u32,
-    count: usize,
-    time: u64,
-) -> Stepped
-    requires { (legal config n ≡ true) × (length rows.now ≡ ring_length n) × (progress.next < n) × (count ≤ columns) × (every ≡ or_one config.update_every) }
-    ensures { result ≡ judged_by config n time progress count (ring_rows n columns rows.now) }
-{
-    if !is_due(every, n, progress) {
-        return Stepped {
-            progress,
-            answer: None,
+impl VitalsEstimator {
+    // An estimate, if one is due after a block.
+    pub(crate) fn judge(&mut self, rows: &[u8], plan: Plan, time: u64) -> Option<Vitals>
+        requires { (length rows.now ≡ ring_length plan.n) × (self.old.progress.next < plan.n) × (self.old.progress.count ≤ columns) }
+        ensures { (self.new.progress ≡ judged_at plan.config plan.n self.old.progress) × (self.new.acc ≡ self.old.acc) × (result ≡ judged_by plan.config plan.n time self.old.progress (ring_rows plan.n columns rows.now)) }
+    {
+        if !is_due(plan, self.progress) {
+            return None;
+        }
+        self.progress.since_update = 0;
+        let view = View {
+            rows,
+            n: plan.n,
+            next: self.progress.next,
+            count: self.progress.count,
         };
-    }
-    let view = View {
-        rows,
-        n,
-        next: progress.next,
-        count,
-    };
-    Stepped {
-        progress: rested(progress),
-        answer: Some(estimate(view, config, time)),
+        Some(estimate(view, plan.config, time))
     }
 }

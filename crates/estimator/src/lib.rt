@@ -5,8 +5,10 @@
 ghost use Rattle.std.specs.Prelude.{◌≡◌};
 ghost use Rattle.refusal.specs.Refusal.{answered_number};
 ghost use Rattle.estimator.specs.Calls.{new_state, new_refusal, reset_refusal, ring_check, state_check, new_answer, reset_answer, Tried};
+ghost use Rattle.estimator.specs.Promises.{kept};
 
 use refusal::Refusal;
+use steps::Plan;
 use vitals::config::VitalsConfig;
 use window::COLUMNS;
 
@@ -48,13 +50,6 @@ pub struct VitalsEstimator {
     pub acc: [u32; COLUMNS],
 }
 
-// The state after a frame, and the estimate where one is due.
-#[derive(Clone, Copy, Debug, PartialEq, Eq)]
-pub struct Pushed {
-    pub state: VitalsEstimator,
-    pub answer: Option<Vitals>,
-}
-
 // Settings in range, and memory of the right length for them.
 #[tactic(auto, unfolding(crate::specs::State::legal))]
 fn check_ring(rows: &[u8], n: usize, config: VitalsConfig) -> Result<(), Refusal>
@@ -94,60 +89,42 @@ impl VitalsEstimator {
         ensures { result ≡ state_check config n self.now rows.now }
     {
         check_ring(rows, n, config)?;
-        if steps::is_valid(n, config, self.progress, &self.acc) {
+        if steps::is_valid(n, config, self) {
             Ok(())
         } else {
             Err(Refusal::Memory)
         }
     }
 
-    // One frame: its first `count` amplitudes, taken at `time`. A frame of count 0 changes nothing.
+    // One frame: its first `count` amplitudes, taken at `time`, and the estimate where one is due. A frame of count 0
+    // changes nothing. The count stands beside the array, as one above its length is refused, which no slice of it has.
     pub fn push(
-        self,
+        &mut self,
         rows: &mut [u8],
         n: usize,
         config: VitalsConfig,
         amplitude: [u16; COLUMNS],
         count: usize,
         time: u64,
-    ) -> Result<Pushed, Refusal>
-        ensures { Tried config n time self rows.old amplitude count rows.new result }
+    ) -> Result<Option<Vitals>, Refusal>
+        ensures { Tried config n time self.old rows.old amplitude count result self.new rows.new }
     {
         self.check(rows, n, config)?;
         if count > COLUMNS {
             return Err(Refusal::Count);
         }
-        let mut acc = self.acc;
-        let stepped = steps::push(
-            rows,
-            &mut acc,
-            n,
-            config,
-            self.progress,
-            &amplitude,
-            count,
-            time,
-        );
-        Ok(Pushed {
-            state: VitalsEstimator {
-                progress: stepped.progress,
-                acc,
-            },
-            answer: stepped.answer,
-        })
+        let plan = Plan { n, config };
+        Ok(steps::push(self, rows, plan, &amplitude[..count], time))
     }
 
     // A state as new: the window and the open block are forgotten, and the rows are free.
-    pub fn reset(
-        self,
-        rows: &[u8],
-        n: usize,
-        config: VitalsConfig,
-    ) -> Result<VitalsEstimator, Refusal>
-        ensures answer { result ≡ reset_answer config n self rows.now }
-        ensures number { answered_number result ≡ reset_refusal config n self rows.now }
+    pub fn reset(&mut self, rows: &[u8], n: usize, config: VitalsConfig) -> Result<(), Refusal>
+        ensures answer { result ≡ state_check config n self.old rows.now }
+        ensures state { self.new ≡ kept self.old (reset_answer config n self.old rows.now) }
+        ensures number { answered_number result ≡ reset_refusal config n self.old rows.now }
     {
         self.check(rows, n, config)?;
-        Self::new(rows, n, config)
+        *self = Self::blank();
+        Ok(())
     }
 }

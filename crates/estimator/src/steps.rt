@@ -3,7 +3,7 @@ ghost use Rattle.std.specs.Prelude.{◌≡◌, true, ◌≤◌, max, length};
 ghost use Rattle.window.specs.Window.{columns};
 ghost use Rattle.estimator.specs.State.{legal, bounded, waiting, in_range, ring_length, restarted_at, Took};
 
-use crate::{Progress, Vitals};
+use crate::{Progress, Vitals, VitalsEstimator};
 use vitals::config::VitalsConfig;
 use window::COLUMNS;
 
@@ -14,14 +14,15 @@ pub const MAX_BLOCKS: usize = 512;
 
 pub const MAX_DECIM: u16 = 32767;
 
-// The progress after a frame, and what the frame gave.
-#[derive(Clone, Copy, Debug, PartialEq, Eq)]
-pub struct Stepped {
-    pub progress: Progress,
-    pub answer: Option<Vitals>,
+// How many blocks a window has, and how to estimate: in range together.
+#[derive(Clone, Copy)]
+pub struct Plan {
+    pub n: usize,
+    pub config: VitalsConfig,
+    ghost legal: { legal config n ≡ true },
 }
 
-// Whether the settings are in range: else refusal 1.
+// Whether the settings are in range.
 #[tactic(auto, unfolding(crate::specs::State::legal))]
 pub fn is_legal(config: VitalsConfig, n: usize) -> bool
     ensures { result ≡ legal config n }
@@ -57,16 +58,17 @@ fn is_waiting(n: usize, config: VitalsConfig, progress: Progress) -> bool
     progress.since_update < at_least_one(config.update_every)
 }
 
-// Whether a state is in range: else refusal 2.
+// Whether a state is in range.
 #[tactic(auto, unfolding(crate::specs::State::in_range))]
-pub fn is_valid(n: usize, config: VitalsConfig, progress: Progress, acc: &[u32; COLUMNS]) -> bool
-    ensures { result ≡ in_range config n progress acc.now }
+pub fn is_valid(n: usize, config: VitalsConfig, estimator: &VitalsEstimator) -> bool
+    ensures { result ≡ in_range config n estimator.now.progress estimator.now.acc }
 {
+    let progress = estimator.progress;
     progress.next < n
         && progress.filled <= n
         && progress.count <= COLUMNS
         && progress.acc_n < at_least_one(config.decim)
-        && totals_fit(acc, progress.acc_n)
+        && totals_fit(&estimator.acc, progress.acc_n)
         && is_waiting(n, config, progress)
 }
 
@@ -83,37 +85,27 @@ pub fn restarted(count: usize) -> Progress
     }
 }
 
-// One frame: its first `count` amplitudes, taken at `time`. A frame of count 0 changes nothing.
+// One frame, taken at `time`. An empty one changes nothing.
 pub fn push(
+    estimator: &mut VitalsEstimator,
     rows: &mut [u8],
-    acc: &mut [u32; COLUMNS],
-    n: usize,
-    config: VitalsConfig,
-    progress: Progress,
-    amplitude: &[u16],
-    count: usize,
+    plan: Plan,
+    frame: &[u16],
     time: u64,
-) -> Stepped
-    requires n_value { (legal config n ≡ true) × (length rows.old ≡ ring_length n) × (in_range config n progress acc.old ≡ true) × (count ≤ columns) }
-    requires acc_len { (length acc.old ≡ columns) × (count ≤ length amplitude.now) }
-    ensures { Took config n time progress acc.old rows.old amplitude.now count result acc.new rows.new }
+) -> Option<Vitals>
+    requires rows { length rows.old ≡ ring_length plan.n }
+    requires state { in_range plan.config plan.n estimator.old.progress estimator.old.acc ≡ true }
+    requires few { length frame.now ≤ columns }
+    ensures { Took plan.config plan.n time estimator.old rows.old frame.now result estimator.new rows.new }
 {
-    if count == 0 {
-        return Stepped {
-            progress,
-            answer: None,
-        };
+    if frame.is_empty() {
+        return None;
     }
-    let start = crate::block::begin(acc, progress, count);
-    crate::block::add_frame(acc, amplitude, count);
-    let fed = crate::block::with_frame(start);
-    if fed.acc_n < at_least_one(config.decim) {
-        return Stepped {
-            progress: fed,
-            answer: None,
-        };
+    estimator.begin(frame.len());
+    estimator.add(frame);
+    if estimator.progress.acc_n < at_least_one(plan.config.decim) {
+        return None;
     }
-    let every = at_least_one(config.update_every);
-    let closed = crate::block::close(rows, acc, n, fed, count);
-    crate::estimate::judge(rows, n, config, closed, every, count, time)
+    estimator.close(rows, plan.n);
+    estimator.judge(rows, plan, time)
 }

@@ -1,4 +1,4 @@
--- Falls (document 01, "Falls"; fall.rs, `FallDetector::push`): the five states of the machine, and one frame of wander w at time t, state by state.
+-- Falls (fall.rs, `FallDetector::push`): the five states of the machine, and one frame of wander w at time t, state by state.
 -- Times are in microseconds. A difference of times is cut at 0, so that a clock that went back counts as no time.
 use Rattle.std.specs.Prelude.{ℕ, ◌+◌, ◌-◌, min, max, cond, ◌&&◌, leb, ltb, Option, Some, None}
 use Rattle.fall.specs.declared.FallConfig.{FallConfig}

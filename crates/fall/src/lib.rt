@@ -6,6 +6,11 @@ ghost use Rattle.std.specs.Prelude.{◌≡◌, ◌-◌};
 ghost use Rattle.fall.specs.Fall.{normalised_default, new_detector, silent, moving, in_refractory, in_idle, in_active, in_burst, in_settling, pushed};
 ghost use Rattle.fall.specs.Promises.{Lent};
 
+pub mod steps;
+
+// How many bytes the settings take in memory.
+pub const CONFIG_LEN: usize = 46;
+
 // Thresholds are permille of wander, durations microseconds.
 #[repr(C)]
 #[derive(Clone, Copy, Debug, PartialEq, Eq)]
@@ -18,6 +23,17 @@ pub struct FallConfig {
     pub settle: u64,
     pub still_for: u64,
     pub refractory: u64,
+}
+
+// The settings as bytes (docs/LAYOUT.md).
+impl From<&[u8; CONFIG_LEN]> for FallConfig {
+    ghost use Rattle.fall.specs.Config.{config_at};
+
+    ghost from_gives = { λ bytes c. c ≡ config_at bytes.now 0 };
+
+    fn from(bytes: &[u8; CONFIG_LEN]) -> FallConfig {
+        steps::config_at(bytes, 0)
+    }
 }
 
 impl FallConfig {

@@ -1,4 +1,4 @@
--- The words of a state are never refused with 2: those of a new machine, and those that a call gave (document 01). Assumes nothing.
+-- The words of a state are never refused: those of a new machine, and those that a call gave. Assumes nothing.
 use Rattle.std.specs.Prelude.{◌≡◌, ℕ}
 use Rattle.fall.specs.declared.FallConfig.{FallConfig}
 use Rattle.fall.specs.Fall.{new_detector}

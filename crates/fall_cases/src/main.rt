@@ -1,9 +1,8 @@
 // Replays recorded frames of the fall machine, by value and lent: two lines for each. `stdout` holds what the Rust answered.
 #![tactic(auto)]
 
-ghost use Rattle.std.specs.Prelude.{◌≤◌, length};
-
-use fall::{FallConfig, FallDetector, FallEvent, Phase};
+use fall::{CONFIG_LEN, FallConfig, FallDetector, FallEvent, Phase};
+use num::steps::word_at;
 use std::{fmt, io};
 
 // The state, and what it holds in the Rust's order.
@@ -78,51 +77,31 @@ impl Machines {
     }
 }
 
-// The settings of new machines: three thresholds, then five durations.
-const SETTINGS: usize = 46;
-
-fn begin(rt: &impl Print, bytes: &[u8]) -> io::Result<Machines>
-    requires { 46 ≤ length bytes.now }
-{
-    println!(rt; "new")?;
-    Ok(Machines::new(FallConfig {
-        active_permille: num::steps::u16_at(bytes, 0),
-        burst_permille: num::steps::u16_at(bytes, 2),
-        still_permille: num::steps::u16_at(bytes, 4),
-        min_active: num::steps::u64_at(bytes, 6),
-        quiet_grace: num::steps::u64_at(bytes, 14),
-        settle: num::steps::u64_at(bytes, 22),
-        still_for: num::steps::u64_at(bytes, 30),
-        refractory: num::steps::u64_at(bytes, 38),
-    }))
-}
-
 // A frame: the wander, then the time.
 const FRAME: usize = 10;
 
-fn frame(rt: &impl Print, machines: Machines, bytes: &[u8]) -> io::Result<Machines>
-    requires { 10 ≤ length bytes.now }
-{
-    let wander = num::steps::u16_at(bytes, 0);
-    let now = num::steps::u64_at(bytes, 2);
+fn frame(rt: &impl Print, machines: &mut Machines, bytes: &[u8; FRAME]) -> io::Result<()> {
+    let wander = word_at(bytes, 0);
+    let now = word_at(bytes, 2);
     let pushed = machines.value.push(wander, now);
+    machines.value = pushed.detector;
     line(rt, wander, now, pushed.detector.phase, pushed.suspicion)?;
-    let mut lent = machines.lent;
-    let suspicion = lent.push_mut(wander, now);
-    line(rt, wander, now, lent.phase, suspicion)?;
-    Ok(Machines {
-        value: pushed.detector,
-        lent,
-    })
+    let suspicion = machines.lent.push_mut(wander, now);
+    line(rt, wander, now, machines.lent.phase, suspicion)
 }
 
-// The machines after a case; none after one of another length.
-fn replay(rt: &impl Print, machines: Machines, case: &[u8]) -> io::Result<Option<Machines>> {
-    match case.len() {
-        SETTINGS => Ok(Some(begin(rt, case)?)),
-        FRAME => Ok(Some(frame(rt, machines, case)?)),
-        _ => Ok(None),
+// New settings, or a frame. Whether the cases go on: not after one of another length.
+fn replay(rt: &impl Print, machines: &mut Machines, case: &[u8]) -> io::Result<bool> {
+    if let Ok(config) = <&[u8; CONFIG_LEN]>::try_from(case) {
+        println!(rt; "new")?;
+        *machines = Machines::new(FallConfig::from(config));
+        return Ok(true);
     }
+    let Ok(bytes) = <&[u8; FRAME]>::try_from(case) else {
+        return Ok(false);
+    };
+    frame(rt, machines, bytes)?;
+    Ok(true)
 }
 
 fn main(rt: HostRuntime) -> io::Result<()> {
@@ -132,10 +111,9 @@ fn main(rt: HostRuntime) -> io::Result<()> {
         let Some(case) = cases::next(&rt, &mut buf)? else {
             return Ok(());
         };
-        let Some(after) = replay(&rt, machines, case)? else {
+        if !replay(&rt, &mut machines, case)? {
             return Ok(());
-        };
-        machines = after;
+        }
     }
     Ok(())
 }

@@ -2,9 +2,7 @@
 #![tactic(auto)]
 
 ghost use Rattle.std.specs.Prelude.{◌≡◌};
-ghost use Rattle.fall_words.specs.Stored.{tag_number, Tags, words, words_of, loaded};
-
-pub mod steps;
+ghost use Rattle.fall_words.specs.Stored.{tag_number, Tags, words, words_of, phase_of, loaded};
 
 use fall::Phase;
 use refusal::Refusal;
@@ -87,33 +85,43 @@ impl From<Phase> for Words {
     }
 }
 
+impl Words {
+    // The state that the words stand for, be they legal or not.
+    #[tactic(auto, unfolding(crate::specs::Stored::phase_of))]
+    pub fn phase(self) -> Phase
+        ensures { result ≡ phase_of self }
+    {
+        let Words { tag, peak, a, b } = self;
+        match Tag::try_from(tag) {
+            Ok(Tag::Active) => Phase::Active {
+                since: a,
+                quiet_since: None,
+            },
+            Ok(Tag::Quietened) => Phase::Active {
+                since: a,
+                quiet_since: Some(b),
+            },
+            Ok(Tag::Burst) => Phase::Burst { at: a, peak },
+            Ok(Tag::Settling) => Phase::Settling {
+                burst_at: a,
+                peak,
+                still_since: b,
+            },
+            Ok(Tag::Refractory) => Phase::Refractory { until: a },
+            Ok(Tag::Idle) | Err(_) => Phase::Idle,
+        }
+    }
+}
+
 // Refused unless storing what the words load gives them again.
 impl TryFrom<Words> for Phase {
     type Error = Refusal;
 
     ghost try_from_gives = { λ words r. r ≡ loaded words };
 
-    #[tactic(auto, unfolding(crate::specs::Stored::phase_of, crate::specs::Stored::words_of, crate::specs::Stored::legal))]
+    #[tactic(auto, unfolding(crate::specs::Stored::legal))]
     fn try_from(words: Words) -> Result<Phase, Refusal> {
-        let Words { tag, peak, a, b } = words;
-        let phase = match Tag::try_from(tag)? {
-            Tag::Idle => Phase::Idle,
-            Tag::Active => Phase::Active {
-                since: a,
-                quiet_since: None,
-            },
-            Tag::Quietened => Phase::Active {
-                since: a,
-                quiet_since: Some(b),
-            },
-            Tag::Burst => Phase::Burst { at: a, peak },
-            Tag::Settling => Phase::Settling {
-                burst_at: a,
-                peak,
-                still_since: b,
-            },
-            Tag::Refractory => Phase::Refractory { until: a },
-        };
+        let phase = words.phase();
         if Words::from(phase) == words {
             Ok(phase)
         } else {

@@ -28,26 +28,34 @@ fn divisor(a: u64, b: u64) -> u64
     x
 }
 
-fn fraction(rt: &impl Print, count: u64, total: u64) -> io::Result<()>
-    requires { 0 < total }
-{
-    let d = divisor(total, count);
-    print!(rt; " fraction {}/{}", count / d, total / d)
+// How many of all sequences.
+#[derive(Clone, Copy)]
+struct Share {
+    count: u64,
+    total: u64,
+    ghost some: { 0 < total },
 }
 
-fn probability(rt: &impl Print, count: u64, total: u64) -> io::Result<()>
-    requires { 0 < total }
-{
-    let places = u128::from(count % total) * PLACES / u128::from(total);
-    println!(rt; " probability {}.{places:012}", count / total)
+impl Share {
+    // In lowest terms.
+    fn fraction(self, rt: &impl Print) -> io::Result<()> {
+        let Share { count, total } = self;
+        let d = divisor(total, count);
+        print!(rt; " fraction {}/{}", count / d, total / d)
+    }
+
+    fn probability(self, rt: &impl Print) -> io::Result<()> {
+        let Share { count, total } = self;
+        let places = u128::from(count % total) * PLACES / u128::from(total);
+        println!(rt; " probability {}.{places:012}", count / total)
+    }
 }
 
-fn line(rt: &impl Print, frames: usize, events: usize, count: u64, total: u64) -> io::Result<()>
-    requires { 0 < total }
-{
+fn line(rt: &impl Print, frames: usize, events: usize, share: Share) -> io::Result<()> {
+    let Share { count, total } = share;
     print!(rt; "frames {frames} events {events} count {count} of {total}")?;
-    fraction(rt, count, total)?;
-    probability(rt, count, total)
+    share.fraction(rt)?;
+    share.probability(rt)
 }
 
 // The numbers of events that come up.
@@ -59,7 +67,7 @@ fn lines(rt: &impl Print, frames: usize) -> io::Result<()>
     if let Ok(counts) = chance::count(config, &CHOICES, SECOND, frames) {
         for (events, &count) in counts.iter().enumerate() {
             if 0 < count {
-                line(rt, frames, events, count, total)?;
+                line(rt, frames, events, Share { count, total })?;
             }
         }
     }

@@ -1,4 +1,4 @@
--- A baseline as the calls gave it is in range, so that no call refuses it by 2. Assumes nothing.
+-- A baseline as the calls gave it is in range, so that no call refuses it as out of range. Assumes nothing.
 use mathlib.Core.Path.{◌≡◌, sym, ap, ◌∙◌}
 use mathlib.Core.Bool.{Bool, true, cond, not}
 use mathlib.Core.List.{[], ◌∷◌}

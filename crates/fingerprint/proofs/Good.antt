@@ -1,15 +1,14 @@
 -- A baseline in range, as facts. Assumes nothing.
-use mathlib.Core.Path.{◌≡◌, refl}
+use mathlib.Core.Path.{◌≡◌}
 use mathlib.Core.Bool.{true}
 use mathlib.Core.List.{List, [], ◌∷◌, ◌++◌}
 use Prim.Native.Nat.{ℕ, ◌*◌, ◌≤◌, ◌<◌}
 use native.Mathlib.Omega.{arith}
 use borrow.Author.Tests.{leb-true, le-leb}
 use lib.Dec.{leb}
-use lib.ListN.{length, get_or, length-append}
-use Rattle.num.specs.Sum.{total}
+use lib.ListN.{length-append}
 use Rattle.num.proofs.Logic.{both}
-use Rattle.num.proofs.Sum.{total-snoc, total-le}
+use Rattle.num.proofs.Sum.{total-snoc}
 use Rattle.fingerprint.specs.Baseline.{max_frames, max_variance, good, fed, fresh, baseline_of}
 use Rattle.fingerprint.specs.declared.Baseline.{Baseline}
 
@@ -36,16 +35,7 @@ fed-good b v e h l =
     let f = facts b e in let g = f.bounded in
     is-good (fed b v) (record { few = omega arith; bounded = omega arith })
 
--- no variance yet, and one more at the end of the list
-pub fresh-list : fresh ≡ baseline_of []
-unfolding baseline_of total
-fresh-list = refl
-
+-- one variance more at the end of the list
 pub fed-list : (vs : List ℕ) (v : ℕ) → fed (baseline_of vs) v ≡ baseline_of (vs ++ (v ∷ []))
 unfolding baseline_of
 fed-list vs v = rw (total-snoc vs v, length-append vs (v ∷ []))
-
--- the baseline of at most 65,535 variances of 32 bits is in range
-pub list-good : (vs : List ℕ) → length vs ≤ max_frames → ((i : ℕ) → get_or vs i 0 ≤ max_variance) → good (baseline_of vs) ≡ true
-unfolding baseline_of
-list-good vs l f = is-good (baseline_of vs) (record { few = l; bounded = omega (arith, total-le max_variance vs (λ i h. f i)) })

@@ -1,4 +1,4 @@
--- The baseline of calibrated variances, and the distance from it (document 01, "Amplitudes and baseline"; fingerprint.rs). Assumes nothing.
+-- The baseline of calibrated variances, and the distance from it (docs/SPEC.md, "Amplitudes and baseline"; fingerprint.rs). Assumes nothing.
 use Rattle.std.specs.Prelude.{Result, Ok, Err, Bool, cond, not, ◌&&◌, List, ℕ, ◌+◌, ◌*◌, ◌/◌, min, ltb, leb, eqb, length}
 use Rattle.std.specs.Result.{result_unwrap_or}
 use Rattle.refusal.specs.declared.Refusal.{Refusal}
@@ -36,8 +36,8 @@ distance_from mean variance = cond (eqb mean 0) 0 (min 65535 (apart variance mea
 abbrev pub fed : Baseline → (variance : ℕ) → Baseline
 fed b v = baseline (b.sum + v) (b.frames + 1)
 
--- ---- what the calls answer. Refusals: 2 out of range, 7 count above 64, 8 full; a frame of count 0 is ignored
--- their numbers, 0 for none
+-- ---- what the calls answer. Refused: a baseline out of range, a count above 64, a full baseline. A frame of count 0 is ignored
+-- the refusals' numbers, 0 for none
 abbrev pub calibrate_refusal : Baseline → Features → ℕ
 calibrate_refusal b f =
     cond (not (good b)) 2 (cond (ltb max_subcarriers f.count) 7 (cond (eqb f.count 0) 0 (cond (eqb b.frames max_frames) 8 0)))
@@ -49,8 +49,8 @@ abbrev pub distance_refusal : Baseline → Features → ℕ
 distance_refusal b f = cond (not (good b)) 2 (cond (ltb max_subcarriers f.count) 7 0)
 
 -- a baseline in range, or the refusal
-abbrev pub range_check : Baseline → Result (Unit {0}) Refusal
-range_check b = cond (good b) (Ok tt) (Err Refusal.Memory)
+abbrev pub range_check : Baseline → Result Baseline Refusal
+range_check b = cond (good b) (Ok b) (Err Refusal.Memory)
 
 unfoldable pub calibrated_of : Baseline → Features → Result Baseline Refusal
 unfolding good

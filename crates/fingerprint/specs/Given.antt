@@ -1,4 +1,4 @@
--- A baseline as the calls gave it never meets refusal 2 (document 01, "Who causes which refusal"). Theorems in proofs/Given.antt. Assumes nothing.
+-- A baseline as the calls gave it is never refused as out of range (docs/SPEC.md, "Who causes which refusal"). Theorems in proofs/Given.antt. Assumes nothing.
 use Rattle.std.specs.Prelude.{◌≡◌, true, List, [], ◌∷◌, ◌≤◌}
 use Rattle.csi.specs.declared.Features.{Features}
 use Rattle.fingerprint.specs.Baseline.{max_variance, fresh, good, calibrate_refusal, mean_refusal, distance_refusal, calibrated_of, standing}
@@ -21,7 +21,7 @@ NewIsGood = good fresh ≡ true
 abbrev pub StaysGood : Type 0
 StaysGood = (b : Baseline) (fs : List Features) → good b ≡ true → Frames fs → good (calibrated_by b fs) ≡ true
 
--- and no call on such a baseline is refused by 2, whatever features it is handed
+-- and no call on such a baseline refuses it as out of range, whatever features it is handed
 abbrev pub NeverRefusedBy2 : Type 0
 NeverRefusedBy2 = (fs : List Features) (f : Features) → Frames fs → let b = calibrated_by fresh fs in
     (calibrate_refusal b f ≡ 2 → ⊥) × (mean_refusal b ≡ 2 → ⊥) × (distance_refusal b f ≡ 2 → ⊥)

@@ -2,11 +2,13 @@
 #![tactic(auto)]
 
 ghost use Rattle.std.specs.Prelude.{◌≡◌};
+ghost use Rattle.std.specs.Result.{result_map_both};
 ghost use Rattle.refusal.specs.Refusal.{answered_number};
 ghost use Rattle.fingerprint.specs.Baseline.{good, fresh, range_check, calibrate_refusal, mean_refusal, distance_refusal, calibrated_of, mean_answer, distance_answer};
 
 use csi::Features;
 use refusal::Refusal;
+use steps::Sound;
 
 pub mod steps;
 
@@ -42,12 +44,12 @@ impl Baseline {
         self.sum <= u64::from(self.frames) * MAX_VARIANCE
     }
 
-    // That it is in range.
-    fn check(self) -> Result<(), Refusal>
-        ensures { result ≡ range_check self }
+    // The same baseline, known to be in range.
+    fn check(self) -> Result<Sound, Refusal>
+        ensures { result_map_both (λ b. b.baseline) (λ e. e) result ≡ range_check self }
     {
         if self.is_good() {
-            Ok(())
+            Ok(Sound { baseline: self })
         } else {
             Err(Refusal::Memory)
         }
@@ -59,7 +61,7 @@ impl Baseline {
         ensures answer { result ≡ calibrated_of self features }
         ensures number { answered_number result ≡ calibrate_refusal self features }
     {
-        self.check()?;
+        let judged = self.check()?;
         features.check()?;
         if features.count == 0 {
             return Ok(self);
@@ -67,7 +69,7 @@ impl Baseline {
         if self.frames == MAX_FRAMES {
             return Err(Refusal::Full);
         }
-        Ok(steps::calibrate(self, features.variance))
+        Ok(judged.calibrate(features.variance).baseline)
     }
 
     // The mean variance, 0 until calibrated. Refused out of range.
@@ -76,8 +78,7 @@ impl Baseline {
         ensures answer { result ≡ mean_answer self }
         ensures number { answered_number result ≡ mean_refusal self }
     {
-        self.check()?;
-        Ok(steps::mean(self))
+        Ok(self.check()?.mean())
     }
 
     // How far a frame is from the baseline, in permille; 0 without a mean. Refused out of range, and with a count above 64.
@@ -86,11 +87,11 @@ impl Baseline {
         ensures answer { result ≡ distance_answer self features }
         ensures number { answered_number result ≡ distance_refusal self features }
     {
-        self.check()?;
+        let judged = self.check()?;
         features.check()?;
         if features.count == 0 {
             return Ok(0);
         }
-        Ok(steps::distance(self, features.variance))
+        Ok(judged.distance(features.variance))
     }
 }

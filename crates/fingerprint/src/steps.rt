@@ -4,29 +4,6 @@ ghost use Rattle.fingerprint.specs.Baseline.{max_frames, good, mean_of, fed, dis
 
 use crate::Baseline;
 
-// One variance more.
-pub fn calibrate(b: Baseline, variance: u32) -> Baseline
-    requires { (good b ≡ true) × (b.frames < max_frames) }
-    ensures { (result ≡ fed b variance) × (good result ≡ true) }
-{
-    Baseline {
-        sum: b.sum + u64::from(variance),
-        frames: b.frames + 1,
-    }
-}
-
-// The mean variance, 0 until calibrated.
-#[tactic(auto, unfolding(crate::specs::Baseline::mean_of))]
-pub fn mean(b: Baseline) -> u32
-    requires { good b ≡ true }
-    ensures { result ≡ mean_of b }
-{
-    if b.frames == 0 {
-        return 0;
-    }
-    (b.sum / u64::from(b.frames)) as u32
-}
-
 // The largest distance.
 const MAX_DISTANCE: u64 = 65535;
 
@@ -40,15 +17,48 @@ fn permille(variance: u32, mean: u32) -> u32
     v.min(MAX_DISTANCE) as u32
 }
 
-// How far a variance is from the mean, in permille; 0 without a mean.
-#[tactic(auto, unfolding(crate::specs::Baseline::distance_from))]
-pub fn distance(b: Baseline, variance: u32) -> u32
-    requires { good b ≡ true }
-    ensures { result ≡ distance_from (mean_of b) variance }
-{
-    let m = mean(b);
-    if m == 0 {
-        return 0;
+// A baseline in range.
+#[derive(Clone, Copy)]
+pub struct Sound {
+    pub baseline: Baseline,
+    pub ghost good: { good baseline ≡ true },
+}
+
+impl Sound {
+    // One variance more.
+    pub fn calibrate(self, variance: u32) -> Self
+        requires { self.baseline.frames < max_frames }
+        ensures { result.baseline ≡ fed self.baseline variance }
+    {
+        let b = self.baseline;
+        let baseline = Baseline {
+            sum: b.sum + u64::from(variance),
+            frames: b.frames + 1,
+        };
+        Sound { baseline }
     }
-    permille(variance, m)
+
+    // The mean variance, 0 until calibrated.
+    #[tactic(auto, unfolding(crate::specs::Baseline::mean_of))]
+    pub fn mean(self) -> u32
+        ensures { result ≡ mean_of self.baseline }
+    {
+        let b = self.baseline;
+        if b.frames == 0 {
+            return 0;
+        }
+        (b.sum / u64::from(b.frames)) as u32
+    }
+
+    // How far a variance is from the mean, in permille; 0 without a mean.
+    #[tactic(auto, unfolding(crate::specs::Baseline::distance_from))]
+    pub fn distance(self, variance: u32) -> u32
+        ensures { result ≡ distance_from (mean_of self.baseline) variance }
+    {
+        let m = self.mean();
+        if m == 0 {
+            return 0;
+        }
+        permille(variance, m)
+    }
 }

@@ -1,5 +1,5 @@
-// Replays recorded baselines: a line for each. `stdout` holds what the Rust answered, and for what the Rust does not refuse, document
-// 01's number.
+// Replays recorded baselines: a line for each. `stdout` holds what the Rust answered, and, where the Rust answers and this
+// refuses, the refusal.
 #![tactic(auto)]
 
 use csi::Features;
@@ -22,28 +22,28 @@ const MOST_BYTES: usize = 64;
 fn reading(rt: &impl Print, answer: Result<u32, Refusal>) -> io::Result<()> {
     match answer {
         Ok(v) => print!(rt; " {v}"),
-        Err(reason) => print!(rt; " refused {}", reason.number()),
+        Err(reason) => print!(rt; " {reason}"),
     }
 }
 
 fn calibrated(rt: &impl Print, answer: Result<Baseline, Refusal>) -> io::Result<()> {
     match answer {
         Ok(b) => print!(rt; " {} {}", b.sum, b.frames),
-        Err(reason) => print!(rt; " refused {}", reason.number()),
+        Err(reason) => print!(rt; " {reason}"),
     }
 }
 
 fn line(rt: &impl Print, bytes: &[u8]) -> io::Result<()> {
     if LENGTH <= bytes.len() {
         let b = Baseline {
-            sum: num::steps::u64_at(bytes, 0),
-            frames: num::steps::u32_at(bytes, FRAMES),
+            sum: num::steps::word_at(bytes, 0),
+            frames: num::steps::word_at(bytes, FRAMES),
         };
         let f = Features {
             amplitude: [0u16; csi::MAX_SUBCARRIERS],
             count: bytes[COUNT],
             mean: 0,
-            variance: num::steps::u32_at(bytes, VARIANCE),
+            variance: num::steps::word_at(bytes, VARIANCE),
         };
         print!(rt; "mean")?;
         reading(rt, b.mean())?;
@@ -56,5 +56,5 @@ fn line(rt: &impl Print, bytes: &[u8]) -> io::Result<()> {
 }
 
 fn main(rt: HostRuntime) -> io::Result<()> {
-    cases::each::<MOST_BYTES, _>(&rt, |case| line(&rt, case))
+    cases::steps::each::<MOST_BYTES, _>(&rt, |case| line(&rt, case))
 }

@@ -1,4 +1,2 @@
-pub mod Digits
 pub mod Several
-pub mod Short
 pub mod Worked

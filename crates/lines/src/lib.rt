@@ -1,4 +1,4 @@
-// The lines that `roomlines` prints for answers of the room (document 01, "The room unit").
+// The lines that `roomlines` prints for answers of the room (docs/SPEC.md, "roomlines").
 #![tactic(auto)]
 
 pub mod steps;

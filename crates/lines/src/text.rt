@@ -1,105 +1,60 @@
-// A line as it grows, by words and numbers. The caller sees to the room.
-ghost use Rattle.std.specs.Prelude.{◌≡◌, ◌+◌, ◌≤◌, ◌++◌, [], length};
+// The parts of a line, put behind what it has. The caller sees to the room.
+ghost use Rattle.std.specs.Prelude.{◌≡◌, ◌+◌, ◌≤◌, ◌++◌, length};
+ghost use Rattle.arrayvec.specs.ArrayString.{array_string_len};
 ghost use Rattle.lines.specs.Lines.{line_max, number, verdict_text, rate_text, fall_text};
 
 use crate::LINE_MAX;
+use arrayvec::ArrayString;
 use itoa::Buffer;
-use num::steps::put;
-use std::marker::Model;
 
-#[derive(Drop)]
-pub(crate) struct Line {
-    bytes: [u8; LINE_MAX],
-    len: usize,
+// The number, with a space before it.
+pub(crate) fn number(line: &mut ArrayString<LINE_MAX>, n: u64)
+    requires { array_string_len line.old + 21 ≤ line_max }
+    ensures printed { line.new.bytes ≡ line.old.bytes ++ number n }
+    ensures upper_bound { array_string_len line.new ≤ array_string_len line.old + 21 }
+{
+    let mut buffer = Buffer::new();
+    line.push(' ');
+    line.push_str(buffer.format(n));
 }
 
-// Clauses see the text.
-impl Model for Line {
-    ghost use Rattle.std.specs.Prelude.{◌≤◌, ℕ, List, take};
-    ghost use Rattle.lines.specs.Lines.{line_max};
-
-    ghost Value = { List ℕ };
-
-    ghost view = { λ l. take l.len l.bytes };
-
-    ghost invariant = { λ l. l.len ≤ line_max };
+// 0 warming, 1 absent, else present; with the word before it.
+#[tactic(auto, unfolding(crate::specs::Lines::verdict_text))]
+pub(crate) fn verdict(line: &mut ArrayString<LINE_MAX>, tag: u8)
+    requires { array_string_len line.old + 13 ≤ line_max }
+    ensures printed { line.new.bytes ≡ line.old.bytes ++ verdict_text tag }
+    ensures upper_bound { array_string_len line.new ≤ array_string_len line.old + 13 }
+{
+    match tag {
+        0 => line.push_str("watch warming"),
+        1 => line.push_str("watch absent"),
+        _ => line.push_str("watch present"),
+    }
 }
 
-impl Line {
-    pub(crate) fn new() -> Line
-        ensures { result ≡ [] }
-    {
-        Line {
-            bytes: [0; LINE_MAX],
-            len: 0,
-        }
+// A rate: 0 not due, 1 not accepted, else its number.
+#[tactic(auto, unfolding(crate::specs::Lines::rate_text))]
+pub(crate) fn rate(line: &mut ArrayString<LINE_MAX>, state: u8, bpm: u16)
+    requires { array_string_len line.old + 21 ≤ line_max }
+    ensures printed { line.new.bytes ≡ line.old.bytes ++ rate_text state bpm }
+    ensures upper_bound { array_string_len line.new ≤ array_string_len line.old + 21 }
+{
+    match state {
+        0 => line.push_str(" -"),
+        1 => line.push_str(" ~"),
+        _ => number(line, u64::from(bpm)),
     }
+}
 
-    pub(crate) fn text(&self) -> &[u8]
-        ensures { result.now ≡ self.now }
-    {
-        &self.bytes[..self.len]
-    }
-
-    pub(crate) fn word(&mut self, word: &[u8])
-        requires { length self.old + length word.now ≤ line_max }
-        ensures printed { self.new ≡ self.old ++ word.now }
-        ensures longer { length self.new ≡ length self.old + length word.now }
-    {
-        put(word, &mut self.bytes[self.len..]);
-        self.len += word.len();
-    }
-
-    // The number, with a space before it.
-    #[tactic(auto, using(crate::proofs::Digits::number_behind))]
-    pub(crate) fn number(&mut self, n: u64)
-        requires { length self.old + 21 ≤ line_max }
-        ensures printed { self.new ≡ self.old ++ number n }
-        ensures upper_bound { length self.new ≤ length self.old + 21 }
-    {
-        let mut buffer = Buffer::new();
-        self.word(b" ");
-        self.word(buffer.format(n).as_bytes());
-    }
-
-    // 0 warming, 1 absent, else present; with the word before it.
-    #[tactic(auto, unfolding(crate::specs::Lines::verdict_text))]
-    pub(crate) fn verdict(&mut self, tag: u8)
-        requires { length self.old + 13 ≤ line_max }
-        ensures printed { self.new ≡ self.old ++ verdict_text tag }
-        ensures upper_bound { length self.new ≤ length self.old + 13 }
-    {
-        match tag {
-            0 => self.word(b"watch warming"),
-            1 => self.word(b"watch absent"),
-            _ => self.word(b"watch present"),
-        }
-    }
-
-    // A rate: 0 not due, 1 not accepted, else its number.
-    #[tactic(auto, unfolding(crate::specs::Lines::rate_text))]
-    pub(crate) fn rate(&mut self, state: u8, bpm: u16)
-        requires { length self.old + 21 ≤ line_max }
-        ensures printed { self.new ≡ self.old ++ rate_text state bpm }
-        ensures upper_bound { length self.new ≤ length self.old + 21 }
-    {
-        match state {
-            0 => self.word(b" -"),
-            1 => self.word(b" ~"),
-            _ => self.number(u64::from(bpm)),
-        }
-    }
-
-    // A fall: 0 none, else one.
-    #[tactic(auto, unfolding(crate::specs::Lines::fall_text))]
-    pub(crate) fn fall(&mut self, fall: u8)
-        requires { length self.old + 5 ≤ line_max }
-        ensures printed { self.new ≡ self.old ++ fall_text fall }
-        ensures upper_bound { length self.new ≤ length self.old + 5 }
-    {
-        match fall {
-            0 => self.word(b" -"),
-            _ => self.word(b" fall"),
-        }
+// A fall: 0 none, else one.
+#[tactic(auto, unfolding(crate::specs::Lines::fall_text))]
+pub(crate) fn fall(line: &mut ArrayString<LINE_MAX>, fall: u8)
+    requires { array_string_len line.old + 5 ≤ line_max }
+    ensures printed { line.new.bytes ≡ line.old.bytes ++ fall_text fall }
+    ensures upper_bound { array_string_len line.new ≤ array_string_len line.old + 5 }
+{
+    match fall {
+        0 => line.push_str(" -"),
+        _ => line.push_str(" fall"),
     }
 }

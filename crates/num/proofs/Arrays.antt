@@ -5,7 +5,7 @@ use mathlib.Core.List.{List, [], ◌∷◌, ◌++◌, append-nil, append_assoc}
 use native.Mathlib.Nat.{mul-suc, mul-zero, add-zero, mul-le-mul_left}
 use native.Mathlib.Numerals.{add-one}
 use native.Mathlib.Omega.{arith}
-use lib.ListN.{length, get_or, take, drop, set, length-append, length-drop, length-set, take-append-drop}
+use lib.ListN.{length, get_or, take, drop, set, length-append, length-set, take-append-drop}
 use lib.Seq.{take_at, drop_at, drop-drop, take-suc, take_all, take-length, take-suc-set, length-take-le}
 use Rattle.num.specs.Words.{le, le_at, le_bytes, put_le, words_in, le_all}
 use Rattle.num.proofs.Words.{length-le_bytes, le-le_bytes}
@@ -111,11 +111,3 @@ module _ (k a : ℕ) (xs m₀ : List ℕ) (room : a + k * length xs ≤ length m
   all-written {m} {i} w h =
       let e : i ≡ length xs = omega (arith, w.within) in
       w.memory ∙ rw (e, take-length xs)
-
-  -- and it is as long as it was
-  pub written-long : {m : List ℕ} {i : ℕ} → Writing k a xs m₀ m i → length m ≡ length m₀
-  written-long {m} {i} w =
-      let le₁ : k * i ≤ k * length xs = mul-le-mul_left k w.within in
-      let f = length-take-le a m₀ (omega arith) in
-      let g : length (le_all k (take i xs)) ≡ k * i = length-le_all k (take i xs) ∙ rw (length-take-le i xs w.within) in
-      ap length w.memory ∙ simp length-append (omega (arith, f, g, length-drop (a + k * i) m₀))

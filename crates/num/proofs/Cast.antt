@@ -10,6 +10,7 @@ use mir.Val.{SFits, to_z, of_z}
 use Rattle.std.specs.Int.{int_wrap}
 use Rattle.num.specs.Wrap.{mod_z, wrap16, signed8, signed32}
 use Rattle.num.proofs.Diff.{sub-lt, sub-ge}
+use Rattle.num.proofs.Wrap.{mod-lt}
 
 pub cast8 : (b : ℕ) → b < 256 → to_z w8 b ≡ signed8 b
 unfolding signed8
@@ -40,13 +41,9 @@ moved : (z : ℤ) → mod_z (z +ℤ pos 32768) 65536 ≡ (mod_z z 65536 + 32768)
 moved (pos n) = omega arith
 moved (negsuc n) = moved-by n (dec_lt n 32768)
 
-mod-below : (z : ℤ) → mod_z z 65536 < 65536
-mod-below (pos n) = omega arith
-mod-below (negsuc n) = omega arith
-
 pub wrap16-is : (z : ℤ) → to_z w16 (mod_z z 65536) ≡ wrap16 z
 unfolding wrap16
-wrap16-is z = read-by (mod_z z 65536) (mod_z (z +ℤ pos 32768) 65536) (mod-below z) (moved z) (dec_lt (mod_z z 65536) 32768)
+wrap16-is z = read-by (mod_z z 65536) (mod_z (z +ℤ pos 32768) 65536) (mod-lt z) (moved z) (dec_lt (mod_z z 65536) 32768)
 
 wrap-mod : (z : ℤ) → int_wrap w16 z ≡ to_z w16 (mod_z z 65536)
 unfolding int_wrap

@@ -1,15 +1,12 @@
 pub mod Abs
 pub mod AddZ
 pub mod Arrays
-pub mod Bits
-pub mod Building
 pub mod Byte
 pub mod Cast
 pub mod Clamp
 pub mod Cond
 pub mod Counting
 pub mod Diff
-pub mod Divisor
 pub mod Dot
 pub mod Each
 pub mod Elements
@@ -19,14 +16,12 @@ pub mod First
 pub mod Grid
 pub mod Lists
 pub mod Logic
-mod Magnitude
+pub mod Made
 pub mod Map
-pub mod Moved
 pub mod Nearest
 pub mod Order
 pub mod Partition
 pub mod Parts
-pub mod Placed
 pub mod Ratio
 pub mod Read
 pub mod Root
@@ -44,4 +39,3 @@ pub mod Words
 pub mod Wrap
 mod Estimate
 mod Scale
-mod Roots

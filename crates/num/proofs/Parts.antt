@@ -1,12 +1,11 @@
 -- A part of a slice that is lent on: what is lent, and the whole once the part has come back. `&mut s[a..]` reaches to the end.
 -- Assumes nothing.
 use Prim.Native.Nat.{ℕ, ◌-◌, ◌+◌, ◌≤◌, ◌<◌}
-use mathlib.Core.Path.{◌≡◌, sym, ap, ◌∙◌, subst}
+use mathlib.Core.Path.{◌≡◌, sym, ap, ◌∙◌}
 use mathlib.Core.List.{List, ◌++◌, append-nil, append_assoc}
 use native.Mathlib.Omega.{arith}
 use lib.ListN.{length, get_or, take, drop, length-append, length-drop, drop_of_length-le, take-append-drop}
-use lib.Seq.{length-take-le, length_front, get_or-take, get_or-drop, take_all, take_at, drop_at, drop-drop, take-append-le, drop-append-le}
-use borrow.Rule.Slice.PartMut.{put_mid, post_of, same_len_mid}
+use lib.Seq.{length-take-le, length_front, get_or-take, get_or-drop, take_all, take_at, drop_at, drop-drop}
 
 -- a part: its length, and its elements
 module _ {A : Type 0} (a k : ℕ) (s : List A) where
@@ -15,13 +14,6 @@ module _ {A : Type 0} (a k : ℕ) (s : List A) where
 
   pub part_at : (i : ℕ) (d : A) → i < k → get_or (take k (drop a s)) i d ≡ get_or s (a + i) d
   part_at i d h = get_or-take k (drop a s) i d h ∙ get_or-drop a s i d
-
--- a fact of a part's place and length, at equal ones; and the part itself
-pub at_part : (F : ℕ → ℕ → Type 0) {a b k j : ℕ} → a ≡ b → k ≡ j → F b j → F a k
-at_part F {a} {b} {k} ea ek f = subst (λ (x : ℕ). F x k) (sym ea) (subst (F b) (sym ek) f)
-
-pub same-part : {A : Type 0} (s : List A) (a b k j : ℕ) → a ≡ b → k ≡ j → take k (drop a s) ≡ take j (drop b s)
-same-part s a b k j ea ek = rw (ea, ek)
 
 -- the part that is lent is the rest of the list
 pub part-lent : {A : Type 0} (a : ℕ) (s : List A) → take (length s - a) (drop a s) ≡ drop a s
@@ -69,38 +61,3 @@ front-whole {a} {p} {m₀} {m} n t m' f e =
 
 pub front-next : {a : ℕ} {p m₀ m : List ℕ} (n : ℕ) (t m' : List ℕ) → Front a p m₀ m → length t ≡ n → m' ≡ take a m ++ (t ++ drop (a + n) m) → Front (a + n) (p ++ t) m₀ m'
 front-next {a} {p} n t m' f l e = record { long = length-append p t ∙ rw (f.long, l); whole = front-whole n t m' f e }
-
--- a part that came back as long as it was: itself, and the parts beside it
-module _ (a k : ℕ) (s p : List ℕ) (fits : a + k ≤ length s) (long : length p ≡ k) where
-  head-long : length (take a s) ≡ a
-  head-long = length-take-le a s (omega arith)
-
-  -- the list is as long as it was
-  pub put-long : length (put_mid a k s p) ≡ length s
-  put-long = same_len_mid a k s p (long ∙ sym (part-long a k s fits))
-
-  -- the part is what came back
-  pub put-own : take k (drop a (put_mid a k s p)) ≡ p
-  put-own = rw (drop_at (take a s) (p ++ post_of a k s) a head-long) (take_at p (post_of a k s) k long)
-
-  -- what stands behind it is as it was
-  pub put-behind : (b : ℕ) → a + k ≤ b → drop b (put_mid a k s p) ≡ drop b s
-  put-behind b h =
-      let whole : length (take a s ++ p) ≡ a + k = length-append (take a s) p ∙ rw (head-long, long) in
-      let split : (a + k) + (b - (a + k)) ≡ b = omega arith in
-      let here : drop (a + k) (put_mid a k s p) ≡ drop (a + k) s =
-      rw (sym (append_assoc (take a s) p (post_of a k s)), drop_at (take a s ++ p) (post_of a k s) (a + k) whole) (drop-drop k a s)
-      in
-      ap (λ (n : ℕ). drop n (put_mid a k s p)) (sym split)
-      ∙ sym (drop-drop (b - (a + k)) (a + k) (put_mid a k s p))
-      ∙ ap (λ (l : List ℕ). drop (b - (a + k)) l) here
-      ∙ drop-drop (b - (a + k)) (a + k) s
-      ∙ ap (λ (n : ℕ). drop n s) split
-
-  -- and so is a part before it
-  pub put-before : (b j : ℕ) → b + j ≤ a → take j (drop b (put_mid a k s p)) ≡ take j (drop b s)
-  put-before b j h =
-      let front : (z : List ℕ) → take j (drop b (take a s ++ z)) ≡ take j (drop b (take a s)) =
-      λ z. rw (drop-append-le b (take a s) z (omega (arith, head-long))) (take-append-le j (drop b (take a s)) z (omega (arith, head-long, length-drop b (take a s))))
-      in
-      front (p ++ post_of a k s) ∙ sym (front (drop a s)) ∙ ap (λ (l : List ℕ). take j (drop b l)) (take-append-drop a s)

@@ -2,7 +2,7 @@
 -- wherever a * t is below s, and wherever a is at most s the right one or one more. Assumes nothing.
 use mathlib.Core.Path.{◌≡◌, ap, ◌∙◌}
 use Prim.Native.Nat.{ℕ, suc, ◌+◌, ◌-◌, ◌*◌, ◌/◌, ◌≤◌, ◌<◌}
-use native.Mathlib.Nat.{one-mul, mul-one, mul-le-mul_left, mul-le-mul_right, lt_of_mul-lt-mul_right, le_of_mul-le-mul_right, div-mul-le_self, lt-div-mul-add, div-eq_of_lt-le, div-le_of_le-mul, mul-div-mul_left}
+use native.Mathlib.Nat.{one-mul, mul-one, mul-le-mul_left, mul-le-mul_right, lt_of_mul-lt-mul_right, le_of_mul-le-mul_right, div-mul-le_self, lt-div-mul-add, div-eq_of_lt-le, mul-div-mul_left}
 use native.Mathlib.Omega.{arith}
 
 module _ (a c t s : ℕ) (some : 0 < t) where
@@ -85,10 +85,6 @@ module _ (P w q x : ℕ) (some : 1 ≤ w) (small : (q + 1) * w * w < P) (few : x
       let a = lt-div-mul-add {a = x * (P / w + 1)} {b = P} (omega (arith, below)) in
       let b : x * (P / w + 1) / P * P ≤ q * P = mul-le-mul_right P (omega (arith, recip-div)) in
       omega arith
-
--- ---- a number times s / q, rounded down: at most the number where the ratio is at most 1, and the same with both s and q times k
-pub part-le : (x s q : ℕ) → s ≤ q → x * s / q ≤ x
-part-le x s q h = div-le_of_le-mul q (omega (arith, mul-le-mul_left x h))
 
 pub part-times : (k : ℕ) → 1 ≤ k → (x s q : ℕ) → x * (k * s) / (k * q) ≡ x * s / q
 part-times k some x s q = let e : x * (k * s) ≡ k * (x * s) = omega arith in ap (λ (a : ℕ). a / (k * q)) e ∙ mul-div-mul_left (x * s) q some

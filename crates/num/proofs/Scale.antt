@@ -17,9 +17,6 @@ abbrev pub scaled : ℕ → ℕ → ℕ
 scaled k v = v * 2 ^ (2 * places k v) % 2 ^ k
 
 module _ (k v : ℕ) (pos : 0 < v) (fits : v < 2 ^ k) where
-  pub places-lt : 2 * places k v < k
-  places-lt = omega (arith, (leading_top k v pos fits).1)
-
   -- no bit is lost
   whole : scaled k v ≡ v * 2 ^ (2 * places k v)
   whole =

@@ -10,7 +10,6 @@ use lib.IntN.{ℤ, pos, negsuc, nat_abs, ◌*ℤ◌}
 use lib.Signed.{lt_z, quot_z}
 use Rattle.num.specs.Clamp.{clamp_z}
 use Rattle.num.specs.Sign.{with_sign}
-use Rattle.num.proofs.Abs.{abs_neg}
 
 not-below : (n : ℕ) (b : Bool) → ltb n 0 ≡ b → with_sign b n ≡ pos n
 not-below n true h = absurd (omega (arith, ltb-true n 0 h))
@@ -20,10 +19,6 @@ not-below n false h = refl
 pub sign-self : (z : ℤ) → with_sign (lt_z z (pos 0)) (nat_abs z) ≡ z
 sign-self (pos n) = not-below n (ltb n 0) refl
 sign-self (negsuc n) = refl
-
-pub sign-size : (b : Bool) (m : ℕ) → nat_abs (with_sign b m) ≡ m
-sign-size true m = abs_neg (pos m)
-sign-size false m = refl
 
 pub sign-mul : (b : Bool) (m k : ℕ) → with_sign b m *ℤ pos k ≡ with_sign b (m * k)
 sign-mul true zero k = let h : 0 * k ≡ 0 = zero-mul k in rw h

@@ -69,9 +69,6 @@ pub none-added : (n : ℕ) (xs ys : List ℕ) → Adding n xs ys xs 0
 none-added n xs ys = record { within = omega arith; sums = sym (plus_none xs) }
 
 module _ (n : ℕ) (xs ys acc : List ℕ) (i : ℕ) (inv : Adding n xs ys acc i) where
-  pub as_long : length acc ≡ length xs
-  as_long = ap length inv.sums ∙ length-plus xs (take i ys)
-
   -- the entry that is added to is as it was
   pub untouched : get_or acc i 0 ≡ get_or xs i 0
   untouched = ap (λ (l : List ℕ). get_or l i 0) inv.sums ∙ plus-past xs ys i
@@ -84,6 +81,3 @@ module _ (n : ℕ) (xs ys acc : List ℕ) (i : ℕ) (inv : Adding n xs ys acc i)
         ∙ ap (λ (l : List ℕ). set l i (get_or xs i 0 + get_or ys i 0)) inv.sums
         ∙ plus-next xs ys i (omega arith) (omega arith) ∙ ap (λ (k : ℕ). plus xs (take k ys)) (sym (add-one i));
   }
-
-  pub all-added : n ≤ i → acc ≡ plus xs (take n ys)
-  all-added h = let e : i ≡ n = omega (arith, inv.within) in inv.sums ∙ ap (λ (k : ℕ). plus xs (take k ys)) e

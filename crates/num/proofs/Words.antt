@@ -1,26 +1,18 @@
 -- Laws of little-endian words: bytes and the number that they hold go over into each other. Assumes nothing.
-use Prim.Native.Nat.{ℕ, zero, suc, ◌+◌, ◌-◌, ◌*◌, ◌/◌, ◌%◌, ◌^◌, ◌≤◌, ◌<◌}
+use Prim.Native.Nat.{ℕ, zero, suc, ◌+◌, ◌*◌, ◌/◌, ◌%◌, ◌^◌, ◌≤◌, ◌<◌}
 use mathlib.Core.Path.{◌≡◌, refl, sym, ap, ◌∙◌}
 use mathlib.Core.List.{List, [], ◌∷◌, ◌++◌}
-use native.Mathlib.Nat.{mul_assoc}
-use native.Mathlib.Numerals.{add-one}
 use native.Mathlib.Omega.{arith}
 use lib.ListN.{length, get_or, take, drop, length-take, length-drop}
-use lib.Seq.{get_or-drop, length-take-le, drop-cons, drop-drop, drop-append-add, take-add}
+use lib.Seq.{get_or-drop, length-take-le, drop-cons, drop-append-add}
 use Rattle.std.proofs.lemmas.List.{drop_all}
-use Rattle.num.specs.Words.{le, le_at, le_bytes, put_le}
+use Rattle.num.specs.Words.{le, le_at, le_bytes}
 use Rattle.num.proofs.Each.{at_every}
-use Rattle.num.proofs.Parts.{part_at, front-put}
+use Rattle.num.proofs.Parts.{part_at}
 
 pub length-le_bytes : (k n : ℕ) → length (le_bytes k n) ≡ k
 length-le_bytes zero n = refl
 length-le_bytes (suc k) n = ap suc (length-le_bytes k (n / 256))
-
--- each is a byte
-pub byte-le_bytes : (k n i : ℕ) → get_or (le_bytes k n) i 0 < 256
-byte-le_bytes zero n i = omega arith
-byte-le_bytes (suc k) n zero = omega arith
-byte-le_bytes (suc k) n (suc i) = byte-le_bytes k (n / 256) i
 
 -- the number of the bytes of a number that k bytes can hold
 pub le-le_bytes : (k n : ℕ) → n < 256 ^ k → le (le_bytes k n) ≡ n
@@ -75,28 +67,3 @@ le-from s i h = rw (drop-cons s i 0 h)
 pub le-past : (s : List ℕ) (n : ℕ) → length s ≤ n → le (drop n s) ≡ 0
 unfolding le
 le-past s n h = rw (drop_all n s h)
-
--- a word in two parts: the first j bytes, and the k after them
-le-append : (xs ys : List ℕ) → le (xs ++ ys) ≡ le xs + 256 ^ length xs * le ys
-unfolding le
-le-append [] ys = omega arith
-le-append (x ∷ xs) ys =
-    let e = le-append xs ys in
-    let q : 256 ^ suc (length xs) ≡ 256 * 256 ^ length xs = omega arith in
-    let p : 256 ^ suc (length xs) * le ys ≡ 256 * (256 ^ length xs * le ys) = ap (λ (z : ℕ). z * le ys) q ∙ mul_assoc 256 (256 ^ length xs) (le ys) in
-    omega arith
-
-pub le_join : (s : List ℕ) (i j k : ℕ) → i + j ≤ length s → le_at s i (j + k) ≡ le_at s i j + 256 ^ j * le_at s (i + j) k
-le_join s i j k h =
-    let long : length (take j (drop i s)) ≡ j = length-take-le j (drop i s) (omega (arith, length-drop i s)) in
-    ap le (take-add j k (drop i s)) ∙ le-append (take j (drop i s)) (take k (drop j (drop i s))) ∙ rw (long, drop-drop)
-
--- a word of two bytes
-pub le-pair : (s : List ℕ) (i : ℕ) → i + 2 ≤ length s → le_at s i 2 ≡ get_or s i 0 + 256 * get_or s (i + 1) 0
-unfolding le
-le-pair s i h = rw (drop-cons s i 0 (omega arith), drop-cons s (suc i) 0 (omega arith), add-one) (omega arith)
-
--- the bytes of a word, put at the front of the part from i on
-pub put-le : (k i n : ℕ) (b s p : List ℕ) → b ≡ le_bytes k n → p ≡ b ++ drop (length b) (take (length s - i) (drop i s))
-    → take i s ++ (p ++ drop (length s - i) (drop i s)) ≡ put_le k s i n
-put-le k i n b s p eb ep = front-put i b (le_bytes k n) s p eb ep ∙ rw (length-le_bytes k n)

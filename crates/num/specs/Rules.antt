@@ -1,4 +1,4 @@
--- Rules that a table of numbers is held to (document 01, "Phase"). Assumes nothing.
+-- Rules that a table of numbers is held to (docs/SPEC.md, "Phase"). Assumes nothing.
 use Rattle.std.specs.Prelude.{◌≡◌, List, ℕ, ◌+◌, ◌-◌, ◌≤◌, ◌<◌, length, get_or}
 use Rattle.num.specs.Sum.{apart, square}
 

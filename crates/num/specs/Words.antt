@@ -1,4 +1,4 @@
--- Little-endian words: the lowest byte first (document 01, "The sample"). Assumes nothing.
+-- Little-endian words: the lowest byte first (docs/SPEC.md, "The sample"). Assumes nothing.
 use Rattle.std.specs.Prelude.{ℕ, zero, suc, ◌+◌, ◌*◌, ◌/◌, ◌%◌, List, [], ◌∷◌, ◌++◌, take, drop}
 
 -- the number that these bytes hold

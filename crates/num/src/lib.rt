@@ -1,11 +1,11 @@
-// Numbers: the integer square root, casts that wrap, signs, distances, exact sums of products.
+// Numbers: the integer square root, casts that wrap, signs, exact sums of products.
 #![tactic(auto)]
 
-ghost use Rattle.std.specs.Prelude.{◌≡◌, ◌+◌, ◌-◌, ◌<◌, ◌≤◌, ◌^◌, min, nat_abs, ◌-ℤ◌, take};
+ghost use Rattle.std.specs.Prelude.{◌≡◌, ◌<◌, ◌≤◌, ◌^◌, min, nat_abs, take};
 ghost use Rattle.num.specs.Root.{root, Near};
 ghost use Rattle.num.specs.Sign.{with_sign};
-ghost use Rattle.num.specs.Sum.{apart, dot_z, max_terms};
-ghost use Rattle.num.specs.Wrap.{mod_z, wrap16, signed8, signed32};
+ghost use Rattle.num.specs.Sum.{dot_z, max_terms};
+ghost use Rattle.num.specs.Wrap.{wrap16, signed8};
 
 pub mod steps;
 
@@ -69,67 +69,6 @@ pub fn wrap_i16(x: i64) -> i16
     bits.cast_signed()
 }
 
-// The difference, wrapped: Rust's `a.wrapping_sub(b)`.
-pub fn wrapping_sub_i16(a: i16, b: i16) -> i16
-    ensures { result ≡ wrap16 (a -ℤ b) }
-{
-    a.wrapping_sub(b)
-}
-
-// A byte as a signed number: Rust's `b as i8`.
-pub fn byte_to_i8(b: u8) -> i8
-    ensures { result ≡ signed8 b }
-{
-    u8::cast_signed(b)
-}
-
-// The bits of x as an unsigned number: Rust's `x as u8`.
-pub fn i8_to_byte(x: i8) -> u8
-    ensures { result ≡ mod_z x 256 }
-{
-    i8::cast_unsigned(x)
-}
-
-// The bits of x as an unsigned number: Rust's `x as u16`.
-pub fn i16_to_u16(x: i16) -> u16
-    ensures { result ≡ mod_z x 65536 }
-{
-    i16::cast_unsigned(x)
-}
-
-// The bits of x as an unsigned number: Rust's `x as u32`.
-pub fn i32_to_u32(x: i32) -> u32
-    ensures { result ≡ mod_z x 4294967296 }
-{
-    i32::cast_unsigned(x)
-}
-
-// The signed number that bits stand for: Rust's `b as i32`.
-pub fn u32_to_i32(b: u32) -> i32
-    ensures { result ≡ signed32 b }
-{
-    u32::cast_signed(b)
-}
-
-// The magnitude: Rust's `x.unsigned_abs()`.
-pub fn unsigned_abs_i8(x: i8) -> u32
-    ensures { result ≡ nat_abs x }
-{
-    u32::from(x.unsigned_abs())
-}
-
-pub fn unsigned_abs_i32(x: i32) -> u64
-    ensures { result ≡ nat_abs x }
-{
-    u64::from(x.unsigned_abs())
-}
-
-pub fn unsigned_abs_i64(x: i64) -> u64
-    ensures { result ≡ nat_abs x }
-{
-    x.unsigned_abs()
-}
-
 // A magnitude with its sign put back.
 pub fn with_sign(negative: bool, size: u16) -> i32
     ensures { result ≡ with_sign negative size }
@@ -143,35 +82,6 @@ pub fn byte_magnitude(b: u8) -> u32
     ensures { (result ≡ nat_abs (signed8 b)) × (result ≤ 128) }
 {
     u32::from(b.cast_signed().unsigned_abs())
-}
-
-// ---- distances and sums that stop at the end of their type
-
-// The distance of two numbers: Rust's `a.abs_diff(b)`, in a type that holds its square.
-pub fn abs_diff_u16(a: u16, b: u16) -> u64
-    ensures { (result ≡ apart a b) × (result ≤ 65535) }
-{
-    u64::from(a.abs_diff(b))
-}
-
-pub fn abs_diff_u32(x: u32, y: u32) -> u64
-    ensures { (result ≡ apart x y) × (result ≤ 4294967295) }
-{
-    u64::from(x.abs_diff(y))
-}
-
-// The difference, 0 where it would be negative: Rust's `a.saturating_sub(b)`.
-pub fn saturating_sub(a: u64, b: u64) -> u64
-    ensures { result ≡ a - b }
-{
-    a.saturating_sub(b)
-}
-
-// The sum, at most the largest u64: Rust's `a.saturating_add(b)`.
-pub fn saturating_add(a: u64, b: u64) -> u64
-    ensures { result ≡ min 18446744073709551615 (a + b) }
-{
-    a.saturating_add(b)
 }
 
 // ---- sums of products

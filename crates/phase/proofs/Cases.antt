@@ -1,5 +1,5 @@
--- Worked examples of the definitions, by computation: document 01's bench cases of angles, an index that rounds up on either
--- side of the diagonal, a walk across the cut, and a line taken off. Assumes nothing.
+-- Worked examples of the definitions, by computation: the bench cases of angles, an index that rounds up on either side of the
+-- diagonal, a walk across the cut, and a line taken off. Assumes nothing.
 use mathlib.Core.Path.{◌≡◌, refl}
 use mathlib.Core.List.{[], ◌∷◌}
 use lib.IntN.{pos, negsuc}

@@ -2,7 +2,6 @@ pub mod Answers
 pub mod Cases
 pub mod Fits
 pub mod Lines
-pub mod Made
 pub mod Octants
 pub mod Points
 pub mod Ranges

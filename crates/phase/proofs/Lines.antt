@@ -14,5 +14,5 @@ slope-of s = slope-fits s.n s.su s.sku s.enough s.few s.su_small s.sku_small
 pub intercept-at : (s : LineSums) (slope : ℤ) → nat_abs slope ≤ slope_most → InterceptFits s.n s.su slope
 intercept-at s slope h = intercept-fits s.n s.su slope s.few s.su_small h
 
-pub residual-at : (l : Line) (k : ℕ) (u : ℤ) → k < max_subcarriers → nat_abs u ≤ place_most → ResidualFits u k l.slope l.icpt
-residual-at l k u h p = residual-fits u k l.slope l.icpt p h l.slope_small l.icpt_small
+pub residual_at : (l : Line) (k : ℕ) (u : ℤ) → k < max_subcarriers → nat_abs u ≤ place_most → ResidualFits u k l.slope l.icpt
+residual_at l k u h p = residual-fits u k l.slope l.icpt p h l.slope_small l.icpt_small

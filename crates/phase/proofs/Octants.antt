@@ -9,30 +9,30 @@ use Rattle.phase.specs.Tables.{atan_octant, entries}
 use Rattle.phase.specs.Angle.{table_index, octant_angle, first_quadrant, quarter_turn}
 
 -- a ratio of at most 1 is in the table
-pub index-lt : (lo hi : ℕ) → lo ≤ hi → 1 ≤ hi → table_index lo hi < entries
+pub index_lt : (lo hi : ℕ) → lo ≤ hi → 1 ≤ hi → table_index lo hi < entries
 unfolding table_index
-index-lt lo hi h some = let k = nearest-le 256 hi (lo * 256) some (omega arith) in omega arith
+index_lt lo hi h some = let k = nearest-le 256 hi (lo * 256) some (omega arith) in omega arith
 
 -- the origin, and any other point
 module _ (lo hi : ℕ) where
-  pub octant-origin : hi ≡ 0 → 0 ≡ octant_angle lo hi
+  pub octant_origin : hi ≡ 0 → 0 ≡ octant_angle lo hi
   unfolding octant_angle
-  octant-origin e = rw (eq-eqb hi 0 e)
+  octant_origin e = rw (eq-eqb hi 0 e)
 
-  pub octant-read : (hi ≡ 0 → ⊥) → get_or atan_octant (table_index lo hi) 0 ≡ octant_angle lo hi
+  pub octant_read : (hi ≡ 0 → ⊥) → get_or atan_octant (table_index lo hi) 0 ≡ octant_angle lo hi
   unfolding octant_angle
-  octant-read h = rw (ne_eqb hi 0 h)
+  octant_read h = rw (ne_eqb hi 0 h)
 
 -- the smaller distance over the larger, on either side of the diagonal
 module _ (ay ax : ℕ) {a : ℕ} (e : a ≡ octant_angle (min ay ax) (max ay ax)) where
-  pub below-diagonal : ay ≤ ax → a ≡ first_quadrant ay ax
+  pub below_diagonal : ay ≤ ax → a ≡ first_quadrant ay ax
   unfolding first_quadrant
-  below-diagonal h =
+  below_diagonal h =
       let l : min ay ax ≡ ay = omega arith in let m : max ay ax ≡ ax = omega arith in
       rw (le-leb ay ax h) (e ∙ rw (l, m))
 
-  pub above-diagonal : ax < ay → quarter_turn - a ≡ first_quadrant ay ax
+  pub above_diagonal : ax < ay → quarter_turn - a ≡ first_quadrant ay ax
   unfolding first_quadrant
-  above-diagonal h =
+  above_diagonal h =
       let l : min ay ax ≡ ax = omega arith in let m : max ay ax ≡ ay = omega arith in
       rw (lt-leb ay ax h) (ap (λ b. quarter_turn - b) (e ∙ rw (l, m)))

@@ -9,5 +9,5 @@ pub atan-ascends : ArctangentsAscend
 unfolding atan_octant
 atan-ascends = ascends-by _ _ atan_octant tt
 
-pub atan-le : (i : ℕ) → i < entries → get_or atan_octant i 0 ≤ eighth_turn
-atan-le i h = ascends-le atan-ascends i h
+pub atan_le : (i : ℕ) → i < entries → get_or atan_octant i 0 ≤ eighth_turn
+atan_le i h = ascends-le atan-ascends i h

@@ -1,16 +1,13 @@
 -- The shape of an accepted sample's phases: as many as the layout uses entries, at the front of an array of the most there can be.
 -- Assumes nothing.
 use mathlib.Core.Path.{◌≡◌, refl, ap, ◌∙◌}
-use mathlib.Core.Bool.{true}
 use mathlib.Core.List.{List, [], ◌∷◌, map}
 use Prim.Native.Nat.{ℕ, suc, ◌-◌, ◌≤◌}
 use native.Mathlib.Omega.{arith}
 use lib.IntN.{ℤ, pos, ◌+ℤ◌, ◌-ℤ◌}
-use lib.ListN.{length, take, replicate, length-append, length-map, length-replicate}
-use lib.Seq.{take_at}
+use lib.ListN.{length, replicate, length-append, length-map}
 use Rattle.num.specs.Wrap.{wrap16}
-use Rattle.csi.specs.Layout.{max_subcarriers, known, layout_of, entries_of}
-use Rattle.csi.proofs.Entries.{usable}
+use Rattle.csi.specs.Layout.{max_subcarriers, layout_of, entries_of}
 use Rattle.phase.specs.Angle.{entry_angle}
 use Rattle.phase.specs.Line.{walk, unwrapped, residuals, phases_of}
 use Rattle.phase.specs.Phases.{sanitised, frame_phases}
@@ -38,19 +35,6 @@ module _ (iq : List ℕ) (tag : ℕ) where
   pub frame-count : (frame_phases iq tag).count ≡ length (entries_of (layout_of tag))
   unfolding frame_phases sanitised
   frame-count = length-map (entries_of (layout_of tag)) (entry_angle iq)
-
-  -- those in use are the phases of the entries' angles
-  pub frame-used : take (frame_phases iq tag).count (frame_phases iq tag).phase ≡ phases_of own
-  unfolding frame_phases sanitised
-  frame-used = take_at (phases_of own) (replicate (max_subcarriers - length own) (pos 0)) (length own) (phases-long own)
-
-  pub frame-long : known tag ≡ true → length (frame_phases iq tag).phase ≡ max_subcarriers
-  unfolding frame_phases sanitised
-  frame-long e =
-      let a = length-append (phases_of own) (replicate (max_subcarriers - length own) (pos 0)) in
-      let b = length-replicate {A = ℤ} (max_subcarriers - length own) (pos 0) in
-      let c = phases-long own in let d = length-map (entries_of (layout_of tag)) (entry_angle iq) in
-      omega (arith, (usable tag e).most)
 
   -- all of them stand in the array, whatever the tag
   pub frame-fits : (frame_phases iq tag).count ≤ length (frame_phases iq tag).phase

@@ -1,4 +1,4 @@
--- The sanitised phase of a frame (document 01, "Phase"; phase.rs, `CsiFrame::phases`): the angles unwrapped, and their
+-- The sanitised phase of a frame (docs/SPEC.md, "Phase"; phase.rs, `CsiFrame::phases`): the angles unwrapped, and their
 -- least-squares line taken off, with sixteen fractional bits. Assumes nothing.
 use Rattle.std.specs.Prelude.{List, [], ◌∷◌, ℕ, suc, ◌+◌, ◌-◌, ◌*◌, ◌/◌, ◌^◌, ◌≤◌, ◌≡◌, ℤ, pos, nat_abs, ◌+ℤ◌, ◌-ℤ◌, ◌*ℤ◌, length}
 use Rattle.std.specs.Int.Signed.{quot_z, shr_z}

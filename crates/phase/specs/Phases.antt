@@ -1,4 +1,4 @@
--- What the calls answer (document 01, "Phase" and the refusals; phase.rs, `Phases`, `CsiFrame::phases`). Assumes nothing.
+-- What the calls answer (docs/SPEC.md, "Phase" and the refusals; phase.rs, `Phases`, `CsiFrame::phases`). Assumes nothing.
 use Rattle.std.specs.Prelude.{cond, ◌&&◌, List, ◌++◌, map, ℕ, ◌-◌, leb, ℤ, pos, length, take, replicate, Result, Ok, Err}
 use Rattle.std.specs.Result.{result_and}
 use Rattle.refusal.specs.declared.Refusal.{Refusal}
@@ -24,8 +24,8 @@ frame_phases iq tag = sanitised (map (entry_angle iq) (entries_of (layout_of tag
 unfoldable pub phases_answer : List ℕ → (tag : ℕ) → Result Phases Refusal
 phases_answer iq tag = result_and (frame_check (length iq) tag) (Ok (frame_phases iq tag))
 
--- of hand-made angles: 7 there are more than 64; and fewer than the two that a line needs (`CsiFrame::phases` gives an error
--- there too, and document 01 has no other number for their count)
+-- of hand-made angles: refused is a count above 64, and one below the two that a line needs (`CsiFrame::phases` gives an error
+-- there too)
 unfoldable pub angles_refusal : (count : ℕ) → ℕ
 angles_refusal count = cond (leb 2 count && leb count max_subcarriers) 0 7
 

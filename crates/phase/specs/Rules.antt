@@ -1,4 +1,4 @@
--- The rule of document 01 about the arctangent table. Theorem in proofs/Rules.antt. Assumes nothing.
+-- The rule of the arctangent table. Theorem in proofs/Rules.antt. Assumes nothing.
 use Rattle.num.specs.Rules.{Ascends}
 use Rattle.phase.specs.Tables.{atan_octant}
 

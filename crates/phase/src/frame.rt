@@ -10,23 +10,14 @@ use crate::tables::AtanTable;
 use csi::Layout;
 use refusal::Refusal;
 
-// The angle of entry k, imaginary before real.
-fn angle_at(table: &AtanTable, iq: &[u8], k: usize) -> i16
-    requires { (k < max_subcarriers) × (2 * k + 1 < length iq.now) }
-    ensures { result ≡ entry_angle iq.now k }
-{
-    let im = num::byte_to_i8(iq[2 * k]);
-    let re = num::byte_to_i8(iq[2 * k + 1]);
-    table.angle(im, re)
-}
-
-// Puts the angles of the entries from `start` on into `out`.
+// Puts the angles of the entries from `start` on into `out`, imaginary before real.
 fn range_angles(table: &AtanTable, iq: &[u8], start: usize, out: &mut [i16])
     requires { (start + length out.old ≤ max_subcarriers) × (2 * (start + length out.old) ≤ length iq.now) }
     ensures { out.new ≡ map (entry_angle iq.now) (up_from start (length out.old)) }
 {
-    for (k, angle) in out.iter_mut().enumerate() {
-        *angle = angle_at(table, iq, start + k);
+    let entries = &iq[2 * start..].as_chunks::<2>().0[..out.len()];
+    for (k, &[im, re]) in entries.iter().enumerate() {
+        out[k] = table.angle(im.cast_signed(), re.cast_signed());
     }
 }
 

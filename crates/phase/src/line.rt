@@ -26,7 +26,7 @@ impl Walk {
         ensures { (result.place ≡ self.place +ℤ wrap16 (angle -ℤ self.angle)) × (result.angle ≡ angle) }
     {
         Walk {
-            place: self.place + i64::from(num::wrapping_sub_i16(angle, self.angle)),
+            place: self.place + i64::from(angle.wrapping_sub(self.angle)),
             angle,
         }
     }

@@ -33,12 +33,14 @@ pub struct AtanTable {
 }
 
 impl AtanTable {
+    #[tactic(auto, unfolding(crate::specs::Tables::atan_octant))]
     pub fn new() -> Self {
         AtanTable {
             entries: ATAN_OCTANT,
         }
     }
 
+    #[tactic(auto, using(crate::proofs::Rules::atan_le))]
     pub(crate) fn entry(&self, i: usize) -> u16
         requires { i < entries }
         ensures { (result ≡ get_or atan_octant i 0) × (result ≤ eighth_turn) }

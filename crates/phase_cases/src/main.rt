@@ -23,7 +23,7 @@ fn answer(rt: &impl Print, measured: Result<Phases, Refusal>) -> io::Result<()> 
             }
             Ok(())
         }
-        Err(refusal) => print!(rt; "refused {}", refusal.number()),
+        Err(refusal) => print!(rt; "{refusal}"),
     }
 }
 
@@ -55,5 +55,5 @@ fn line(rt: &impl Print, case: &[u8]) -> io::Result<()> {
 }
 
 fn main(rt: HostRuntime) -> io::Result<()> {
-    cases::each::<512, _>(&rt, |case| line(&rt, case))
+    cases::steps::each::<512, _>(&rt, |case| line(&rt, case))
 }

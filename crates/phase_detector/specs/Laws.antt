@@ -1,5 +1,5 @@
 -- The laws of the sums of unit vectors. Assumes nothing.
-use Rattle.std.specs.Prelude.{ℕ, suc, ◌*◌, ◌≤◌, List, length, ℤ, nat_abs, ◌+ℤ◌}
+use Rattle.std.specs.Prelude.{ℕ, suc, ◌*◌, ◌<◌, ◌≤◌, List, length, ℤ, nat_abs, ◌+ℤ◌}
 use Rattle.std.proofs.Common.{sym, ◌∙◌, ap, arith}
 use Rattle.std.proofs.Math.Nat.{div-le_of_le-mul}
 use Rattle.std.proofs.Math.ListN.{length-map, get_or-map}
@@ -37,6 +37,9 @@ window-le window =
     div-le_of_le-mul (width window)
     (sum_to-le (width window) 1000000 (λ (sc : ℕ). column_ppm (length window) (column_sum angles cos_at window sc) (column_sum angles sin_at window sc))
     (λ k h. ppm-le (length window) (column_sum angles cos_at window k) (column_sum angles sin_at window k)))
+
+pub some_unit : 0 < phase_kind.unit
+some_unit = omega arith
 
 pub columnwise : Columnwise phase_kind ColumnRange column_ppm
 columnwise = record { lawful = lawful; ranged = ranged; wander = λ window. omega (arith, window-le window) }

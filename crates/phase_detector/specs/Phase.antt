@@ -1,4 +1,4 @@
--- Phase presence is the detector of the wander of angles (document 01, "Phase"; phase.rs, `PhaseDetector`). Assumes nothing.
+-- Phase presence is the detector of the wander of angles (phase.rs, `PhaseDetector`). Assumes nothing.
 use Rattle.std.specs.Prelude.{ℕ, List, map, ℤ, pos, replicate}
 use Rattle.window.specs.Window.{columns}
 use Rattle.detector.specs.Calls.{zero_sums}

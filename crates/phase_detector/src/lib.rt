@@ -2,17 +2,17 @@
 // detector itself is `sliding`'s, of these sums.
 #![tactic(auto)]
 
-ghost use Rattle.std.specs.Prelude.{◌≡◌};
+ghost use Rattle.std.specs.Prelude.{◌≡◌, refl};
 ghost use Rattle.vectors.specs.Vector.{bits, column_ppm};
 ghost use Rattle.phase_detector.specs.Wander.{ColumnRange};
 ghost use Rattle.phase_detector.specs.Phase.{phase_kind, limits_of, entries};
-ghost use Rattle.phase_detector.specs.Laws.{entrywise, columnwise};
+ghost use Rattle.phase_detector.specs.Laws.{some_unit, entrywise, columnwise};
 
 use detector::Limits;
-use sliding::ColumnSums;
+use sliding::steps::ColumnSums;
 use vectors::tables::SinTable;
 use window::COLUMNS;
-use window::share::Rows;
+use window::steps::share::Rows;
 
 pub mod steps;
 
@@ -64,20 +64,21 @@ impl ColumnSums for Sums {
 
     ghost entries = { entries };
 
+    ghost TOP = { phase_kind.top };
+
+    ghost UNIT = { phase_kind.unit };
+
+    // In parts per million.
+    const TOP: u32 = 1000000;
+
+    const UNIT: u32 = 10;
+
     fn table() -> SinTable {
         SinTable::new()
     }
 
     fn bits(entry: i16) -> u16 {
         entry.cast_unsigned()
-    }
-
-    fn top() -> u32 {
-        steps::MAX_PPM
-    }
-
-    fn unit() -> u32 {
-        steps::MOTION_UNIT
     }
 
     fn none() -> Sums {
@@ -103,6 +104,12 @@ impl ColumnSums for Sums {
     fn wander(&self, rows: Rows, sc: usize) -> u32 {
         vectors::steps::column_ppm(rows, self.at(sc))
     }
+
+    ghost top = { refl };
+
+    ghost unit = { refl };
+
+    ghost some_unit = { some_unit };
 
     ghost entrywise = { entrywise };
 

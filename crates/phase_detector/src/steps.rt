@@ -10,12 +10,6 @@ use vectors::tables::SinTable;
 use vectors::{UNIT, UnitVector};
 use window::COLUMNS;
 
-// The largest wander, in parts per million.
-pub(crate) const MAX_PPM: u32 = 1000000;
-
-// Wander to a step of motion.
-pub(crate) const MOTION_UNIT: u32 = 10;
-
 // The sums of no rows.
 pub fn no_sums() -> Sums
     ensures { result ≡ no_sums }

@@ -1,55 +1,52 @@
 // Replays recorded runs of the phase detector through its public calls: a line for each run. `stdout` holds what the Rust
-// answered, and the refusals of document 01.
+// answered, and the refusals.
 #![tactic(auto)]
 
 use detector::Limits;
+use num::steps::word_at;
 use phase_detector::{Config, Sums};
-use replays::{COLUMNS, LONGEST, Run};
+use replays::{COLUMNS, Kind, LONGEST};
 use sliding::Frame;
 use std::io;
 
-// A run is its window (two bytes), its memory's length (four), its thresholds (four, four) and its hold (eight), low bytes
-// first; then its frames.
-const HEAD: usize = 22;
+// The limits of a run are its thresholds (four, four bytes) and its hold (eight), low bytes first.
+const LIMITS: usize = 16;
 
-fn damaged(before: Sums) -> Sums {
-    let mut sums = before;
-    sums.sin[63] = 16385;
-    sums
-}
+struct Phase;
 
-fn angles(bits: [u16; COLUMNS]) -> [i16; COLUMNS] {
-    let mut out = [0i16; COLUMNS];
-    for (angle, x) in out.iter_mut().zip(bits.iter()) {
-        *angle = x.cast_signed();
+impl Kind for Phase {
+    type Sums = Sums;
+
+    fn limits(bytes: &[u8]) -> Option<(Limits, &[u8])> {
+        let (head, behind) = bytes.split_first_chunk::<LIMITS>()?;
+        let config = Config {
+            on_ppm: word_at(head, 0),
+            off_ppm: word_at(head, 4),
+            hold: word_at(head, 8),
+        };
+        Some((Limits::from(config), behind))
     }
-    out
+
+    fn put(entries: &mut [i16; COLUMNS], bits: [u16; COLUMNS]) {
+        for (angle, x) in entries.iter_mut().zip(bits) {
+            *angle = x.cast_signed();
+        }
+    }
+
+    fn damage(sums: &mut Sums) {
+        sums.sin[63] = 16385;
+    }
 }
 
 fn line(rt: &impl Print, bytes: &[u8]) -> io::Result<()> {
-    if bytes.len() < HEAD {
-        return Ok(());
-    }
-    let len = num::steps::u32_at(bytes, 2) as usize;
-    let config = Config {
-        on_ppm: num::steps::u32_at(bytes, 6),
-        off_ppm: num::steps::u32_at(bytes, 10),
-        hold: num::steps::u64_at(bytes, 14),
-    };
-    let run = Run {
-        w: usize::from(num::steps::u16_at(bytes, 0)),
-        limits: Limits::from(config),
-        of_bits: |bits: [u16; COLUMNS]| angles(bits),
-        damaged: |sums: Sums| damaged(sums),
-    };
     let mut frame = Frame {
         entries: [0i16; COLUMNS],
         count: 0,
         time: 0,
     };
-    replays::replay(rt, len, &run, &mut frame, &bytes[HEAD..])
+    replays::replay::<Phase>(rt, &mut frame, bytes)
 }
 
 fn main(rt: HostRuntime) -> io::Result<()> {
-    cases::each::<LONGEST, _>(&rt, |case| line(&rt, case))
+    cases::steps::each::<LONGEST, _>(&rt, |case| line(&rt, case))
 }

@@ -1,5 +1,5 @@
 -- The laws of the sums of amplitudes. Assumes nothing.
-use Rattle.std.specs.Prelude.{ℕ, List, refl}
+use Rattle.std.specs.Prelude.{ℕ, ◌<◌, List, refl}
 use Rattle.std.proofs.Common.{sym, ◌∙◌, arith}
 use Rattle.std.proofs.lemmas.List.{get_or_default}
 use Rattle.std.proofs.Math.Nat.{add_left_comm, mul-le-mul_right}
@@ -18,6 +18,9 @@ ranged =
       more = λ n x a b h r. record { most = omega (arith, r.most); squares = omega (arith, r.squares, mul-le-mul_right {m = x} {n = 65535} x (omega arith)) };
       wider = λ n m a b h r. record { most = omega (arith, r.most); squares = r.squares };
     }
+
+pub some_unit : 0 < presence_kind.unit
+some_unit = omega arith
 
 pub columnwise : Columnwise presence_kind ColumnRange column_wander
 unfolding window_wander

@@ -1,4 +1,4 @@
--- Presence is the detector of the wander of amplitudes (document 01, "Presence"; csi.rs, `PresenceDetector`). Assumes nothing.
+-- Presence is the detector of the wander of amplitudes (csi.rs, `PresenceDetector`). Assumes nothing.
 use Rattle.std.specs.Prelude.{replicate}
 use Rattle.window.specs.Window.{columns}
 use Rattle.detector.specs.Detector.{Kind}

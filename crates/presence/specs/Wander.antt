@@ -1,10 +1,10 @@
--- The wander of a window, in permille: the mean over its columns of a column's deviation over its mean (document 01, "Presence"; csi.rs,
+-- The wander of a window, in permille: the mean over its columns of a column's deviation over its mean (csi.rs,
 -- `compute_wander`). Assumes nothing.
 use Rattle.std.specs.Prelude.{ℕ, zero, suc, ◌+◌, ◌-◌, ◌*◌, ◌/◌, ◌≤◌, min, List}
 use Rattle.std.proofs.Math.Decide.{ℕ_discrete}
 use Rattle.num.specs.Root.{root}
 use Rattle.num.specs.Sum.{square}
-use Rattle.window.specs.Sums.{Summing, carried_mean, window_mean}
+use Rattle.window.specs.Sums.{Summing, window_mean}
 
 abbrev pub self : ℕ → ℕ
 self x = x
@@ -25,10 +25,7 @@ against (suc m) d = d * 1000 / (suc m * 16)
 unfoldable pub column_wander : (w s q : ℕ) → ℕ
 column_wander w s q = against (s / w) (deviation16 w s q)
 
--- the mean over the columns, at most 16 bits: of n columns of w rows with these carried sums, and of a window
-unfoldable pub carried_wander : (w n : ℕ) (sum sumsq : List ℕ) → ℕ
-carried_wander w n sum sumsq = min 65535 (carried_mean amplitudes column_wander w n sum sumsq)
-
+-- the mean over the columns, at most 16 bits
 unfoldable pub window_wander : List (List ℕ) → ℕ
 window_wander window = min 65535 (window_mean amplitudes column_wander window)
 

@@ -2,15 +2,15 @@
 // itself is `sliding`'s, of these sums.
 #![tactic(auto)]
 
-ghost use Rattle.std.specs.Prelude.{◌≡◌};
+ghost use Rattle.std.specs.Prelude.{◌≡◌, refl};
 ghost use Rattle.presence.specs.Wander.{ColumnRange, column_wander};
 ghost use Rattle.presence.specs.Presence.{presence_kind, limits_of, normalised_default};
-ghost use Rattle.presence.specs.Laws.{entrywise, columnwise};
+ghost use Rattle.presence.specs.Laws.{some_unit, entrywise, columnwise};
 
 use detector::Limits;
-use sliding::ColumnSums;
+use sliding::steps::ColumnSums;
 use window::COLUMNS;
-use window::share::Rows;
+use window::steps::share::Rows;
 
 pub mod steps;
 
@@ -75,18 +75,19 @@ impl ColumnSums for Sums {
 
     ghost entries = { λ frame. frame };
 
+    ghost TOP = { presence_kind.top };
+
+    ghost UNIT = { presence_kind.unit };
+
+    // In permille.
+    const TOP: u32 = 65535;
+
+    const UNIT: u32 = 1;
+
     fn table() {}
 
     fn bits(entry: u16) -> u16 {
         entry
-    }
-
-    fn top() -> u32 {
-        steps::MAX_PERMILLE
-    }
-
-    fn unit() -> u32 {
-        steps::MOTION_UNIT
     }
 
     fn none() -> Sums {
@@ -115,6 +116,12 @@ impl ColumnSums for Sums {
     fn wander(&self, rows: Rows, sc: usize) -> u32 {
         steps::column_wander(rows, self.sum[sc], self.sumsq[sc])
     }
+
+    ghost top = { refl };
+
+    ghost unit = { refl };
+
+    ghost some_unit = { some_unit };
 
     ghost entrywise = { entrywise };
 

@@ -7,16 +7,7 @@ ghost use Rattle.presence.specs.Presence.{no_sums};
 
 use crate::Sums;
 use window::COLUMNS;
-use window::share::Rows;
-
-// The largest wander, in permille.
-pub(crate) const MAX_PERMILLE: u32 = 65535;
-
-// Wander to a step of motion.
-pub(crate) const MOTION_UNIT: u32 = 1;
-
-// The largest number of 32 bits.
-const MAX_U32: u64 = 4294967295;
+use window::steps::share::Rows;
 
 // The sums of no rows, and of rows of zeros.
 pub fn no_sums() -> Sums
@@ -39,10 +30,10 @@ pub(crate) fn square(x: u16) -> u64
 fn scaled_root(scaled: u64) -> u64
     ensures { result ≡ root scaled }
 {
-    if scaled <= MAX_U32 {
-        return u64::from(num::isqrt(scaled as u32));
+    match u32::try_from(scaled) {
+        Ok(small) => u64::from(num::isqrt(small)),
+        Err(_) => num::isqrt64(scaled),
     }
-    num::isqrt64(scaled)
 }
 
 // The wander of one column, permille, from its sum and square sum.
@@ -50,7 +41,7 @@ pub(crate) fn column_wander(rows: Rows, sum: u32, sumsq: u64) -> u32
     requires { ColumnRange rows.w sum sumsq }
     ensures { result ≡ column_wander rows.w sum sumsq }
 {
-    let s = sum as u64;
+    let s = u64::from(sum);
     let mean = rows.share(s);
     if mean == 0 {
         return 0;

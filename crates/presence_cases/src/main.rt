@@ -1,47 +1,50 @@
 // Replays recorded runs of the presence detector through its public calls: a line for each run. `stdout` holds what the Rust
-// answered, and the refusals of document 01.
+// answered, and the refusals.
 #![tactic(auto)]
 
 use detector::Limits;
+use num::steps::word_at;
 use presence::{Config, Sums};
-use replays::{COLUMNS, LONGEST, Run};
+use replays::{COLUMNS, Kind, LONGEST};
 use sliding::Frame;
 use std::io;
 
-// A run is its window (two bytes), its memory's length (four), its thresholds (two, two) and its hold (eight), low bytes
-// first; then its frames.
-const HEAD: usize = 18;
+// The limits of a run are its thresholds (two, two bytes) and its hold (eight), low bytes first.
+const LIMITS: usize = 12;
 
-fn damaged(before: Sums) -> Sums {
-    let mut sums = before;
-    sums.sumsq[63] = sums.sumsq[63].wrapping_add(1);
-    sums
+struct Presence;
+
+impl Kind for Presence {
+    type Sums = Sums;
+
+    fn limits(bytes: &[u8]) -> Option<(Limits, &[u8])> {
+        let (head, behind) = bytes.split_first_chunk::<LIMITS>()?;
+        let config = Config {
+            on_permille: word_at(head, 0),
+            off_permille: word_at(head, 2),
+            hold: word_at(head, 4),
+        };
+        Some((Limits::from(config), behind))
+    }
+
+    fn put(entries: &mut [u16; COLUMNS], bits: [u16; COLUMNS]) {
+        *entries = bits;
+    }
+
+    fn damage(sums: &mut Sums) {
+        sums.sumsq[63] = sums.sumsq[63].wrapping_add(1);
+    }
 }
 
 fn line(rt: &impl Print, bytes: &[u8]) -> io::Result<()> {
-    if bytes.len() < HEAD {
-        return Ok(());
-    }
-    let len = num::steps::u32_at(bytes, 2) as usize;
-    let config = Config {
-        on_permille: num::steps::u16_at(bytes, 6),
-        off_permille: num::steps::u16_at(bytes, 8),
-        hold: num::steps::u64_at(bytes, 10),
-    };
-    let run = Run {
-        w: usize::from(num::steps::u16_at(bytes, 0)),
-        limits: Limits::from(config),
-        of_bits: |bits: [u16; COLUMNS]| bits,
-        damaged: |sums: Sums| damaged(sums),
-    };
     let mut frame = Frame {
         entries: [0u16; COLUMNS],
         count: 0,
         time: 0,
     };
-    replays::replay(rt, len, &run, &mut frame, &bytes[HEAD..])
+    replays::replay::<Presence>(rt, &mut frame, bytes)
 }
 
 fn main(rt: HostRuntime) -> io::Result<()> {
-    cases::each::<LONGEST, _>(&rt, |case| line(&rt, case))
+    cases::steps::each::<LONGEST, _>(&rt, |case| line(&rt, case))
 }

@@ -1,5 +1,5 @@
 -- The number of each reason to refuse a call (docs/SPEC.md, "Who causes which refusal"). Assumes nothing.
-use Rattle.std.specs.Prelude.{ℕ, Result, Ok, Err}
+use Rattle.std.specs.Prelude.{ℕ, Result, Ok, Err, List, ◌++◌, codes, decimal}
 use Rattle.refusal.specs.declared.Refusal.{Refusal}
 
 abbrev pub number : Refusal → ℕ
@@ -18,3 +18,7 @@ number Refusal.Chance = 13
 abbrev pub answered_number : {A : Type 0} → Result A Refusal → ℕ
 answered_number (Ok x) = 0
 answered_number (Err refusal) = number refusal
+
+-- how it prints
+abbrev pub refused : Refusal → List ℕ
+refused refusal = codes "refused " ++ decimal (number refusal)

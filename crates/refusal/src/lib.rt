@@ -10,25 +10,25 @@ use std::fmt;
 #[derive(Clone, Copy, Debug, PartialEq, Eq, Hash)]
 pub enum Refusal {
     // A setting out of its range, or settings of another length.
-    Settings,
+    Settings = 1,
     // Memory or a state that is not as a call leaves it.
-    Memory,
+    Memory = 2,
     // Not the bytes of a sample.
-    Form,
+    Form = 3,
     // An unknown layout.
-    Tag,
+    Tag = 4,
     // Too few I/Q bytes.
-    Iq,
+    Iq = 5,
     // No space for the answer.
-    Space,
+    Space = 6,
     // Features or angles with a count out of range.
-    Count,
+    Count = 7,
     // The baseline takes no more frames.
-    Full,
+    Full = 8,
     // An unknown kind of record, or one cut short.
-    Record,
+    Record = 9,
     // Sequences: the number of choices, their length or the spacing out of range.
-    Chance,
+    Chance = 13,
 }
 
 impl Refusal {
@@ -36,24 +36,18 @@ impl Refusal {
     pub fn number(self) -> u8
         ensures { result ≡ number self }
     {
-        match self {
-            Refusal::Settings => 1,
-            Refusal::Memory => 2,
-            Refusal::Form => 3,
-            Refusal::Tag => 4,
-            Refusal::Iq => 5,
-            Refusal::Space => 6,
-            Refusal::Count => 7,
-            Refusal::Full => 8,
-            Refusal::Record => 9,
-            Refusal::Chance => 13,
-        }
+        self as u8
     }
 }
 
 impl fmt::Display for Refusal {
+    ghost use Rattle.std.specs.Prelude.{Some};
+    ghost use Rattle.refusal.specs.Refusal.{refused};
+
+    ghost output = { λ refusal. Some (refused refusal) };
+
     fn fmt<W: fmt::Write>(&self, f: &mut fmt::Formatter<W>) -> fmt::Result {
-        write!(f, "refused by {}", self.number())
+        write!(f, "refused {}", self.number())
     }
 }
 

@@ -3,3 +3,4 @@ pub mod Sampled
 pub mod Passing
 pub mod Run
 pub mod Tied
+pub mod Cut

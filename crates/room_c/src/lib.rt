@@ -1,19 +1,19 @@
 // Calls of room from C and Rust.
 #![tactic(auto)]
 
-ghost use Rattle.std.specs.Prelude.{◌≡◌};
+ghost use Rattle.std.specs.Prelude.{◌≡◌, ◌≤◌, IfOk, IfSome};
 ghost use Rattle.unit.specs.Promises.{Begun, RanSo};
 ghost use Rattle.room_sensing.specs.Sensing.{room};
 ghost use Rattle.room_state.specs.Memory as layout;
 ghost use Rattle.room.specs.Steps.{ran_of};
 ghost use Rattle.room.specs.Passes.{Passes};
-ghost use Rattle.room_c.specs.Calls.{memory_answer};
+ghost use Rattle.room_c.specs.Calls.{memory_len_of, memory_answer};
 
 use refusal::{Refusal, answered_number};
 use room::Ended;
 use unit::Ran;
 
-// Refusal 0 and the length in bytes, or a refusal's number and 0.
+// The length in bytes, with 0 for the refusal; or the refusal's number, with 0 for the length.
 #[repr(C)]
 #[derive(Clone, Copy)]
 pub struct MemoryLen {
@@ -21,17 +21,22 @@ pub struct MemoryLen {
     pub len: usize,
 }
 
+impl From<Result<usize, Refusal>> for MemoryLen {
+    ghost from_gives = { λ answer m. m ≡ memory_len_of answer };
+
+    fn from(answer: Result<usize, Refusal>) -> Self {
+        MemoryLen {
+            refusal: answered_number(answer),
+            len: answer.unwrap_or(0),
+        }
+    }
+}
+
 #[unsafe(no_mangle)]
 pub extern "C" fn room_memory_len(settings: &[u8]) -> MemoryLen
     ensures { result ≡ memory_answer settings.now }
 {
-    match room::room_memory_len(settings) {
-        Ok(len) => MemoryLen { refusal: 0, len },
-        Err(refusal) => MemoryLen {
-            refusal: refusal.number(),
-            len: 0,
-        },
-    }
+    MemoryLen::from(room::room_memory_len(settings))
 }
 
 #[unsafe(no_mangle)]
@@ -43,22 +48,22 @@ pub extern "C" fn room_begin(settings: &[u8], memory: &mut [u8]) -> u8
 
 // A run's answer in numbers: 6 where space ended it, with its need.
 fn ran(answer: Result<Ended, Refusal>) -> Ran
+    requires { IfOk answer (λ e. IfSome e.need (λ n. 1 ≤ n)) }
     ensures { result ≡ ran_of answer }
 {
     match answer {
-        Ok(ended) => {
-            let need = ended.need.unwrap_or(0);
-            Ran {
-                refusal: if need == 0 {
-                    0
-                } else {
-                    Refusal::Space.number()
-                },
+        Ok(
+            Ended {
                 need,
-                answers: ended.answers,
-                used: ended.used,
-            }
-        }
+                answers,
+                used,
+            },
+        ) => Ran {
+            refusal: need.map_or(0, |_| Refusal::Space.number()),
+            need: need.unwrap_or(0),
+            answers,
+            used,
+        },
         Err(refusal) => Ran {
             refusal: refusal.number(),
             need: 0,

@@ -1,19 +1,18 @@
-// The header read and written, for a caller that has tested the memory's length.
-ghost use Rattle.std.specs.Prelude.{◌≡◌, ◌++◌, ◌≤◌, length, take, drop};
+// The header read and written.
+ghost use Rattle.std.specs.Prelude.{◌≡◌, ◌++◌, length, take, drop};
 ghost use Rattle.room_memory.specs.Header.{header_len, settings_len, sum_at, state_at, small_bytes, column_bytes, state_bytes, Small, flags};
 
-use crate::RoomState;
 use crate::arrays::{numbers_at, put_numbers};
 use crate::fields::{
     baseline_in, detector_in, fall_in, progress_in, put_baseline, put_detector, put_fall,
     put_progress,
 };
+use crate::{HEADER_LEN, RoomState};
 use estimator::VitalsEstimator;
 use sliding::Held;
 
 // Reads the header.
-pub fn load(m: &[u8]) -> RoomState
-    requires { header_len ≤ length m.now }
+pub fn load(m: &[u8; HEADER_LEN]) -> RoomState
     ensures { result ≡ state_at m.now }
 {
     RoomState {
@@ -47,19 +46,17 @@ pub fn load(m: &[u8]) -> RoomState
 
 // Whether both flags are 0 or 1.
 #[tactic(auto, unfolding(crate::specs::Header::flags))]
-pub fn flags_valid(m: &[u8]) -> bool
-    requires { header_len ≤ length m.now }
+pub fn flags_valid(m: &[u8; HEADER_LEN]) -> bool
     ensures { result ≡ flags m.now }
 {
     m[crate::PRESENCE_AT + crate::PRESENT_AT] <= 1 && m[crate::PHASE_AT + crate::PRESENT_AT] <= 1
 }
 
 // Writes the small states.
-fn store_small(m: &mut [u8], s: &RoomState)
-    requires { header_len ≤ length m.old }
+fn store_small(m: &mut [u8; HEADER_LEN], s: &RoomState)
     ensures { m.new ≡ take settings_len m.old ++ (small_bytes s.now ++ drop sum_at m.old) }
 {
-    crate::fields::put_byte(m, crate::TAG_AT, s.tag);
+    m[crate::TAG_AT] = s.tag;
     put_detector(m, crate::PRESENCE_AT, s.presence.state);
     put_detector(m, crate::PHASE_AT, s.phase.state);
     put_progress(m, crate::BREATHING_AT, s.breathing.progress);
@@ -69,9 +66,8 @@ fn store_small(m: &mut [u8], s: &RoomState)
 }
 
 // Writes the numbers of the columns.
-fn store_columns(m: &mut [u8], s: RoomState)
-    requires { header_len ≤ length m.old }
-    ensures { m.new ≡ take sum_at m.old ++ (column_bytes s.presence.sums s.phase.sums s.breathing.acc s.heart.acc ++ drop header_len m.old) }
+fn store_columns(m: &mut [u8; HEADER_LEN], s: RoomState)
+    ensures { m.new ≡ take sum_at m.old ++ column_bytes s.presence.sums s.phase.sums s.breathing.acc s.heart.acc }
 {
     put_numbers(m, crate::SUM_AT, &s.presence.sums.sum);
     put_numbers(m, crate::SUMSQ_AT, &s.presence.sums.sumsq);
@@ -82,11 +78,11 @@ fn store_columns(m: &mut [u8], s: RoomState)
 }
 
 // Writes the header behind the settings. What is stored is what `load` gives.
-pub fn store(m: &mut [u8], s: RoomState)
-    requires header_len_in_bounds { header_len ≤ length m.old }
+pub fn store(m: &mut [u8; HEADER_LEN], s: RoomState)
     requires small { Small s }
-    ensures m_after { m.new ≡ take settings_len m.old ++ (state_bytes s ++ drop header_len m.old) }
+    ensures m_after { m.new ≡ take settings_len m.old ++ state_bytes s }
     ensures m_after_2 { state_at m.new ≡ s }
+    ensures long { length m.new ≡ header_len }
 {
     store_small(m, &s);
     store_columns(m, s);

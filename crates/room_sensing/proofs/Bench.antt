@@ -1,4 +1,4 @@
--- The bench table of document 01, proved in one go by computation about the definitions. Assumes nothing.
+-- The bench table, proved in one go by computation about the definitions. Assumes nothing.
 use mathlib.Core.Path.{◌≡◌, refl}
 use mathlib.Core.List.{map}
 use Rattle.num.specs.Root.{root, root_in}

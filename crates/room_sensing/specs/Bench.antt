@@ -1,4 +1,4 @@
--- The bench cases that document 01 marks with a star, one row each: what the definitions give, and what the paper says. `proofs/Bench.antt` proves them in one go.
+-- The bench cases that docs/SPEC.md marks with a star, one row each: what the definitions give, and what is due. `proofs/Bench.antt` proves them in one go.
 -- Assumes nothing.
 use Rattle.std.specs.Prelude.{List, [], ◌∷◌, map, ℕ, ℤ, pos, negsuc, get_or, take, replicate}
 use Rattle.csi.specs.Features.{amplitude_at, describe, normalised_of}

@@ -6,7 +6,7 @@ ghost use Rattle.room_sensing.specs.Sensing.{room};
 ghost use Rattle.room_sensing.specs.Answers.{rate_bytes, refused_bytes, watched_bytes, learnt_bytes, reset_bytes, answer_of};
 
 use detector::Verdict;
-use num::steps::{u16_bytes, u32_bytes, u64_bytes};
+use num::steps::put_word;
 use refusal::Refusal;
 
 // How many bytes an answer is.
@@ -48,7 +48,7 @@ fn rate_bytes(rate: Rate) -> [u8; 3]
         Rate::NotDue => [0, 0, 0],
         Rate::NotAccepted => [1, 0, 0],
         Rate::Accepted(bpm) => {
-            let [low, high] = u16_bytes(bpm);
+            let [low, high] = bpm.to_le_bytes();
             [2, low, high]
         }
     }
@@ -60,7 +60,7 @@ fn refused_bytes(refusal: Refusal, at: usize) -> [u8; ANSWER_LEN]
 {
     let mut out = [0; ANSWER_LEN];
     out[1] = refusal.number();
-    out[2..10].copy_from_slice(&u64_bytes(at as u64));
+    put_word(&mut out, 2, at as u64);
     out
 }
 
@@ -73,9 +73,9 @@ fn watched_bytes(w: Watched) -> [u8; ANSWER_LEN]
     out[1] = w.verdict.tag();
     out[2] = w.verdict.motion();
     out[3] = u8::from(w.fall);
-    out[4..6].copy_from_slice(&u16_bytes(w.permille));
-    out[6..8].copy_from_slice(&u16_bytes(w.distance));
-    out[8..12].copy_from_slice(&u32_bytes(w.ppm));
+    put_word(&mut out, 4, w.permille);
+    put_word(&mut out, 6, w.distance);
+    put_word(&mut out, 8, w.ppm);
     out[12..15].copy_from_slice(&rate_bytes(w.breathing));
     out[15..18].copy_from_slice(&rate_bytes(w.heart));
     out
@@ -87,8 +87,8 @@ fn learnt_bytes(frames: u32, mean: u32) -> [u8; ANSWER_LEN]
 {
     let mut out = [0; ANSWER_LEN];
     out[0] = 2;
-    out[1..5].copy_from_slice(&u32_bytes(frames));
-    out[5..9].copy_from_slice(&u32_bytes(mean));
+    put_word(&mut out, 1, frames);
+    put_word(&mut out, 5, mean);
     out
 }
 

@@ -1,4 +1,4 @@
-// The room in definitions (document 01): its settings, the memory that they need, its kinds of record, the judgement of its samples, its answers.
+// The room in definitions (docs/SPEC.md): its settings, the memory that they need, its kinds of record, the judgement of its samples, its answers.
 #![tactic(auto)]
 
 pub mod answer;

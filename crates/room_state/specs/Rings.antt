@@ -36,16 +36,3 @@ module _ (σ : Settings) where
         breathing = part_at breathing_from (ring_length σ.n) rows;
         heart = part_at heart_from (ring_length σ.n) rows;
       }
-
--- one ring changed, the others as they were
-abbrev pub with_presence : Rings → List ℕ → Rings
-with_presence r p = record { presence = p; phase = r.phase; breathing = r.breathing; heart = r.heart }
-
-abbrev pub with_phase : Rings → List ℕ → Rings
-with_phase r p = record { presence = r.presence; phase = p; breathing = r.breathing; heart = r.heart }
-
-abbrev pub with_breathing : Rings → List ℕ → Rings
-with_breathing r p = record { presence = r.presence; phase = r.phase; breathing = p; heart = r.heart }
-
-abbrev pub with_heart : Rings → List ℕ → Rings
-with_heart r p = record { presence = r.presence; phase = r.phase; breathing = r.breathing; heart = p }

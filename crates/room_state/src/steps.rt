@@ -13,7 +13,6 @@ use room_memory::RoomState;
 use room_sensing::memory::ring_len;
 use room_sensing::settings::Settings;
 use sliding::Held;
-use window::COLUMNS;
 
 // The largest tag.
 const MAX_TAG: u8 = 4;
@@ -22,10 +21,7 @@ const MAX_TAG: u8 = 4;
 fn emptied(tag: u8, amplitudes: presence::Sums, angles: phase_detector::Sums) -> RoomState
     ensures { result ≡ emptied_with tag amplitudes angles }
 {
-    let rhythm = VitalsEstimator {
-        progress: estimator::steps::restarted(0),
-        acc: [0u32; COLUMNS],
-    };
+    let rhythm = VitalsEstimator::blank();
     RoomState {
         tag,
         presence: Held {
@@ -69,8 +65,8 @@ fn windows_good(settings: &Settings, s: &RoomState, rows: &[u8]) -> bool
 {
     let w = usize::from(settings.w);
     let ring = ring_len(settings.w);
-    sliding::steps::is_valid(&rows[..ring], w, s.presence.state, &s.presence.sums)
-        && sliding::steps::is_valid(&rows[ring..2 * ring], w, s.phase.state, &s.phase.sums)
+    sliding::steps::is_valid(&rows[..ring], w, &s.presence)
+        && sliding::steps::is_valid(&rows[ring..2 * ring], w, &s.phase)
 }
 
 // Whether all other numbers are in range.
@@ -78,17 +74,13 @@ fn numbers_good(settings: &Settings, s: &RoomState) -> bool
     ensures { result ≡ numbers_good settings.now s.now }
 {
     let n = usize::from(settings.n);
-    estimator::steps::is_valid(
-        n,
-        settings.breathing,
-        s.breathing.progress,
-        &s.breathing.acc,
-    ) && estimator::steps::is_valid(n, settings.heart, s.heart.progress, &s.heart.acc)
+    estimator::steps::is_valid(n, settings.breathing, &s.breathing)
+        && estimator::steps::is_valid(n, settings.heart, &s.heart)
         && s.baseline.is_good()
         && Phase::try_from(s.fall).is_ok()
 }
 
-// Whether a state and its rows are as a run leaves them: else refusal 2.
+// Whether a state and its rows are as a run leaves them.
 pub fn is_good(settings: &Settings, s: &RoomState, rows: &[u8]) -> bool
     requires { length rows.now ≡ rows_length settings.now }
     ensures { result ≡ is_good settings.now s.now (rings_of settings.now rows.now) }

@@ -35,11 +35,6 @@ use Rattle.room_state.specs.Rings.{Rings, rings_of}
 use Rattle.room_state.specs.State.{held_in, GoodState}
 use Rattle.room_watch.specs.Watching.{InPresence, InPhase, InRhythm, Falls, Feeds, stepped_by}
 
--- settings in range have settings of breathing and heart that are legal
-pub rhythms-legal : (σ : Settings) → in_range σ ≡ true → (legal σ.breathing σ.n ≡ true) × (legal σ.heart σ.n ≡ true)
-unfolding in_range
-rhythms-legal σ e = both (legal σ.breathing σ.n) (legal σ.heart σ.n) (both (is_window σ.w) _ e).1
-
 -- what all detectors did with a sample, on the rings and beside them
 pub record Fed (σ : Settings) (s : RoomState) (r : Rings) (f : Features) (a : Phases) (time : ℕ) (v u : Verdict) (b h : Option Vitals) (fell : Bool) (s' : RoomState) (r' : Rings) : Type 0 where
   pub presence : InPresence σ.presence σ.w s.presence r.presence f time s'.presence r'.presence v

@@ -1,5 +1,5 @@
 -- What the functions for one watched sample promise. Assumes nothing.
-use Rattle.std.specs.Prelude.{◌≡◌, Bool, true, cond, List, ℕ, length, Option, is_some}
+use Rattle.std.specs.Prelude.{◌≡◌, Bool, true, cond, List, ℕ, length, take, Option, is_some}
 use Rattle.window.specs.Window.{columns}
 use Rattle.detector.specs.Detector.{Pushes}
 use Rattle.sliding.specs.declared.Held.{Held}
@@ -42,7 +42,7 @@ InPhase c w h ring a time h' ring' v =
 
 abbrev pub InRhythm : VitalsConfig → (n : ℕ) → VitalsEstimator → (ring : List ℕ) → Features → (time : ℕ) → VitalsEstimator → (ring' : List ℕ) → Option Vitals → Type 0
 InRhythm c n e ring f time e' ring' answer =
-    Took c n time e.progress e.acc ring f.amplitude f.count (record { progress = e'.progress; answer = answer }) e'.acc ring'
+    Took c n time e ring (take f.count f.amplitude) answer e' ring'
 
 -- the fall machine after the verdict and the wander of presence
 abbrev pub stepped_by : FallConfig → Words → Verdict → (wander time : ℕ) → Pushed

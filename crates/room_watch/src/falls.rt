@@ -4,7 +4,7 @@ ghost use Rattle.fall_words.specs.Stored.{legal};
 ghost use Rattle.room_watch.specs.Watching.{Falls};
 
 use detector::Verdict;
-use fall::{FallConfig, FallDetector, Phase};
+use fall::{FallConfig, FallDetector};
 use fall_words::Words;
 
 // Whether the machine, which is lent in words, tells a fall. The verdict and the wander are those of presence.
@@ -23,7 +23,7 @@ pub(crate) fn step_fall(
     }
     let mut machine = FallDetector {
         config,
-        phase: Phase::try_from(*words).unwrap(),
+        phase: words.phase(),
     };
     let event = machine.push_mut(wander as u16, time);
     *words = Words::from(machine.phase);

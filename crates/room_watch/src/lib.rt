@@ -1,8 +1,7 @@
-// A watched sample, fed to every detector on its ring (document 01, "The room unit").
+// A watched sample, fed to every detector on its ring.
 #![tactic(auto)]
 
 mod falls;
-mod pushes;
 mod sample;
 pub mod steps;
 mod told;

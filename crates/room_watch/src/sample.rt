@@ -1,49 +1,35 @@
-// What a sample that its bytes do not refuse gives the detectors.
-ghost use Rattle.std.specs.Prelude.{◌≡◌, length};
+// What a judged sample gives the detectors.
+ghost use Rattle.std.specs.Prelude.{◌≡◌};
 ghost use Rattle.phase.specs.Phases.{frame_phases};
-ghost use Rattle.room_sensing.specs.Sensing.{bytes_refusal, sample_len, tag_of, iq_of, features_in};
+ghost use Rattle.room_sensing.specs.Sensing.{tag_of, iq_of, features_in};
 
 use csi::Features;
-use csi_stream::Sample;
-use csi_stream::steps::tag_in;
 use phase::Phases;
+use room_sensing::sample::Judged;
 use sliding::Frame;
+use window::COLUMNS;
 
-pub(crate) fn features_in(body: &[u8]) -> Features
-    requires { (bytes_refusal body.now ≡ 0) × (length body.now ≡ sample_len) }
-    ensures { result ≡ features_in body.now }
+pub(crate) fn features_in(sample: Judged<'_>) -> Features
+    ensures { result ≡ features_in sample.entry.bytes.now }
 {
-    let plain = csi::steps::features(Sample::iq(body), tag_in(body));
+    let plain = csi::steps::features(sample.iq, sample.tag);
     csi::steps::normalised(plain)
 }
 
-pub(crate) fn phases_in(body: &[u8]) -> Phases
-    requires { (bytes_refusal body.now ≡ 0) × (length body.now ≡ sample_len) }
-    ensures { result ≡ frame_phases (iq_of body.now) (tag_of body.now) }
+pub(crate) fn phases_in(sample: Judged<'_>) -> Phases
+    ensures { result ≡ frame_phases (iq_of sample.entry.bytes.now) (tag_of sample.entry.bytes.now) }
 {
-    phase::steps::phases(Sample::iq(body), tag_in(body))
+    phase::steps::phases(sample.iq, sample.tag)
 }
 
-// The amplitudes as a frame of presence, breathing and heart.
-pub(crate) fn amplitudes_of(features: &Features, time: u64) -> Frame<u16>
-    ensures { result ≡ record { entries = features.now.amplitude; count = features.now.count; time = time } }
+// Amplitudes or angles as a frame of a detector.
+pub(crate) fn frame<E: Copy>(entries: [E; COLUMNS], count: u8, time: u64) -> Frame<E>
+    ensures { result ≡ record { entries = entries; count = count; time = time } }
 {
-    let entries = features.amplitude;
+    let count = usize::from(count);
     Frame {
         entries,
-        count: usize::from(features.count),
-        time,
-    }
-}
-
-// The angles as a frame of phase.
-pub(crate) fn angles_of(phases: &Phases, time: u64) -> Frame<i16>
-    ensures { result ≡ record { entries = phases.now.phase; count = phases.now.count; time = time } }
-{
-    let entries = phases.phase;
-    Frame {
-        entries,
-        count: usize::from(phases.count),
+        count,
         time,
     }
 }

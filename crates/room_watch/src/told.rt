@@ -11,12 +11,7 @@ pub(crate) fn rate_of(answer: Option<Vitals>) -> Rate
 {
     match answer {
         None => Rate::NotDue,
-        Some(v) => {
-            if v.accepted {
-                Rate::Accepted(v.bpm_x10)
-            } else {
-                Rate::NotAccepted
-            }
-        }
+        Some(v) if v.accepted => Rate::Accepted(v.bpm_x10),
+        Some(_) => Rate::NotAccepted,
     }
 }

@@ -2,7 +2,7 @@
 ghost use Rattle.std.specs.Prelude.{◌≡◌};
 ghost use Rattle.roomlines.specs.Settings.{settings_bytes};
 
-pub const SETTINGS_LEN: usize = 118;
+use room_memory::SETTINGS_LEN;
 
 const SETTINGS: [u8; SETTINGS_LEN] = [
     // 0: W: 50 frames of a window

@@ -1,5 +1,5 @@
--- The calls over a state as numbers: what the test before them lets pass, and what stands then. Assumes nothing.
-use mathlib.Core.Path.{◌≡◌, refl, sym}
+-- The calls over a state as numbers: what the test before them lets pass, and what a refused push is. Assumes nothing.
+use mathlib.Core.Path.{◌≡◌, refl}
 use mathlib.Core.Bool.{Bool, true, false, cond}
 use mathlib.Core.List.{List}
 use Prim.Native.Nat.{ℕ}
@@ -9,22 +9,11 @@ use Rattle.refusal.specs.declared.Refusal.{Refusal}
 use Rattle.refusal.specs.Refusal.{number}
 use Rattle.detector.specs.Detector.{Kind}
 use Rattle.detector.specs.Calls.{is_window, push_refusal}
-use Rattle.detector.specs.Words.{is_state, state_of, words_of, words_refusal, CallsInWords}
+use Rattle.detector.specs.Words.{is_state, state_of, words_refusal, CallsInWords}
 use Rattle.detector.specs.declared.Limits.{Limits}
 use Rattle.detector.specs.declared.State.{State}
 use Rattle.detector.specs.declared.Words.{Words}
-use Rattle.detector.proofs.InWords.{words_back}
-use Rattle.sliding.specs.Answers.{after, words_check}
-
--- what stands as numbers is the numbers of what stands
-pub after-words : {A : Type 0} (of : A → State) (x : Words) → is_state x ≡ true → (r : Result A Refusal) → after (λ a. words_of (of a)) x r ≡ words_of (after of (state_of x) r)
-after-words of x e (Ok a) = refl
-after-words of x e (Err refusal) = sym (words_back x e)
-
--- what is told of what stands
-pub after-told : {A B C : Type 0} (f : B → C) (of : A → B) (before : B) (r : Result A Refusal) → after (λ a. f (of a)) (f before) r ≡ f (after of before r)
-after-told f of before (Ok a) = refl
-after-told f of before (Err refusal) = refl
+use Rattle.sliding.specs.Answers.{words_check}
 
 pub record Read (w : ℕ) (x : Words) (s : State) : Type 0 where
   pub window : is_window w ≡ true

@@ -156,7 +156,7 @@ module _ (S : Summing) (lawful : Lawful S) (w c slot count : ℕ) (new rows₀ :
       → Written S w c slot count new rows₀ rows' fs' gs' (sc + 1)
   write-turn whole₀ in-ring narrow new-long {rows} {fs} {gs} {fs'} {gs'} {sc} inv more rows' old x old_is x-is r put bytes' =
       record {
-        stored = store-turn w c slot count new rows₀ whole₀ in-ring narrow new-long rows sc inv.stored more rows' (rw x-is at put);
+        stored = store-turn w c slot count new rows₀ whole₀ in-ring narrow (omega (arith, new-long)) rows sc inv.stored more rows' (rw x-is at put);
         bytes = bytes';
         ring = rw put (ring-replaced S lawful w c rows fs gs fs' gs' inv.ring slot sc x in-ring (omega arith) (rw old_is at r));
       }

@@ -12,10 +12,10 @@ abbrev pub after : {A B : Type 0} → (A → B) → (before : B) → Result A Re
 after of before (Ok a) = of a
 after of before (Err refusal) = before
 
--- 1 for the window's size, 2 for a state, sums or memory that are not as a call leaves them
+-- the window's size, then a state, sums or memory that are not as a call leaves them
 abbrev pub state_check : (K : Kind) (w c : ℕ) → State → List ℕ → (fs gs : List K.sums.Number) → Result (Unit {0}) Refusal
 state_check K w c s bytes fs gs = cond (is_window w) (cond (is_valid K w c s bytes fs gs) (Ok tt) (Err Refusal.Memory)) (Err Refusal.Settings)
 
--- numbers that are no state's are refused by 2, behind 1
+-- numbers that stand for no state are refused as memory, behind the window's size
 abbrev pub words_check : (w : ℕ) → Words → Result State Refusal
 words_check w x = cond (is_window w) (state_for x) (Err Refusal.Settings)

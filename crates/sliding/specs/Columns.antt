@@ -1,4 +1,4 @@
--- What a detector's sums of columns have to do, for the steps of a push (document 01, "Presence" and "Phase"): an entry added to a column or put in
+-- What a detector's sums of columns have to do, for the steps of a push: an entry added to a column or put in
 -- another's place, and the laws. Assumes nothing.
 use Rattle.std.specs.Prelude.{◌≡◌, ℕ, suc, ◌<◌, ◌≤◌, min, List, length, get_or}
 use Rattle.window.specs.Window.{max_rows}

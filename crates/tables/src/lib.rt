@@ -1,10 +1,10 @@
 // The arctangent and sine tables at 256 and at 1,024 steps, made in whole numbers (docs/TABLES.md).
 #![tactic(auto)]
 
-ghost use Rattle.std.specs.Prelude.{◌≡◌, ◌+◌, ◌*◌, ◌≤◌, ◌<◌, length, get_or};
+ghost use Rattle.std.specs.Prelude.{◌≡◌, ◌+◌, ◌*◌, ◌≤◌, get_or};
 ghost use Rattle.num.specs.Nearest.{nearest};
 ghost use Rattle.tables.specs.Tables.{radian, fractions, deeper, euler, atan_entry, sine_terms, less, alternating, sine_entry};
-ghost use Rattle.tables.specs.Sizes.{most_steps, most_divisor, most_entry, Place, AtMostHalf, AtMostOne};
+ghost use Rattle.tables.specs.Sizes.{most_divisor, most_entry, Place, AtMostHalf, AtMostOne};
 
 pub mod steps;
 
@@ -45,6 +45,7 @@ fn nearest(a: u64, b: u64) -> u16
 }
 
 // A bracket of the arctangent's series: 1, a radian here, and fraction k times x, the bracket inside it.
+#[tactic(auto, using(crate::proofs::Sizes::bracket_le), unfolding(crate::specs::Tables::deeper))]
 fn deeper(s: u64, q: u64, k: u64, x: u64) -> u64
     requires { AtMostHalf s q × (k ≤ fractions) × (x ≤ 2 * radian) }
     ensures { (result ≡ deeper s q k x) × (result ≤ 2 * radian) }
@@ -64,6 +65,7 @@ fn euler(s: u64, q: u64) -> u64
     x
 }
 
+#[tactic(auto, unfolding(crate::specs::Tables::atan_entry))]
 fn atan_entry(n: u64, i: u64) -> u16
     requires { Place n i }
     ensures { result ≡ atan_entry n i }
@@ -74,6 +76,7 @@ fn atan_entry(n: u64, i: u64) -> u16
 }
 
 // A bracket of the sine's series: a term, less s / q times x, the bracket inside it.
+#[tactic(auto, unfolding(crate::specs::Tables::less))]
 fn less(s: u64, q: u64, a: u64, x: u64) -> u64
     requires { AtMostOne s q × (x ≤ a) × (a ≤ get_or sine_terms 0 0) }
     ensures { (result ≡ less s q a x) × (result ≤ a) }
@@ -87,12 +90,13 @@ fn alternating(s: u64, q: u64) -> u64
     ensures { (result ≡ alternating s q sine_terms) × (result ≤ get_or sine_terms 0 0) }
 {
     let mut x = 0;
-    for k in (0..TERMS).rev() {
-        x = less(s, q, SINE_TERMS[k], x);
+    for &a in SINE_TERMS.iter().rev() {
+        x = less(s, q, a, x);
     }
     x
 }
 
+#[tactic(auto, unfolding(crate::specs::Tables::sine_entry))]
 fn sine_entry(n: u64, i: u64) -> u16
     requires { Place n i }
     ensures { result ≡ sine_entry n i }

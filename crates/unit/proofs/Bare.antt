@@ -1,4 +1,4 @@
--- Document 01 as it stands: where no kind of record is a note and no call of the host's is one, L holds samples alone.
+-- Where no kind of record is a note and no call of the host's is one, L holds samples alone.
 use mathlib.Core.Path.{◌≡◌, sym, ap, ◌∙◌, subst}
 use Prim.Native.Nat.{ℕ, zero, suc}
 use mathlib.Core.Bool.{Bool, true, false, cond}

@@ -294,7 +294,7 @@ computed-space : space_after small a-run (replicate 10 200) ≡ 4 ∷ 0 ∷ 0 �
 unfolding a-run walk cut cut_f detect
 computed-space = refl
 
--- document 01's listing: a reset, a sample of 141 bytes, and a byte 7 at 143 that begins no record
+-- a stream: a reset, a sample of 141 bytes, and a byte 7 at 143 that begins no record
 listing : Cut
 listing = cut (kinds_for 141) (3 ∷ 1 ∷ replicate 141 0 ++ 7 ∷ [])
 

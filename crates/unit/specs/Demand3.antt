@@ -64,7 +64,7 @@ module _ (S : Sensing) (Called : List ℕ → Call S → Return S → List ℕ �
       → Passing P q ds rs → (b : Boundary S P q) → Life n h (run q space ∷ ds) qs → S.settings h ≡ in_force S (room_at S P)
       → length space ≡ space_at_boundary S b → AlikeFrom b space rs qs
 
-  -- Where no sample is ever held back (document 01 as it stands), a change of tag draws nothing from before it, and this says:
+  -- Where no sample is ever held back (the room has none that is), a change of tag draws nothing from before it, and this says:
   pub record PlainlyAlike (P : Place S) (space : List ℕ) (rs qs : List (Return S)) : Type 0 where
     pub answers : List (Said S.Finding)
     pub need : ℕ
@@ -86,7 +86,7 @@ module _ (S : Sensing) (Called : List ℕ → Call S → Return S → List ℕ �
       → Life m g (cs ++ begin g' ∷ ds) rs → begin_refusal S g' (length m) ≡ 0 → Life n h ds qs → S.settings h ≡ S.settings g'
       → rs ≡ begun 0 ∷ plainly S m g cs ++ qs
 
-  -- Memory that the unit left is not refused by 2: a run returns 0 or 6.
+  -- Memory that the unit left is not refused: a run returns 0 or 6.
   abbrev pub NeverRefusedBy2 : Type 0
   NeverRefusedBy2 =
       (m : List ℕ) (g : S.Given) (cs ds : List (Call S)) (records space : List ℕ) (rs : List (Return S)) → Life m g (cs ++ run records space ∷ ds) rs

@@ -1,5 +1,5 @@
 -- Places in the life of a unit, as the plain room has them: behind some calls, within a run; boundaries among them; and what a run gives that passes
--- such a place (document 01, "The plain room", second paragraph). Assumes nothing.
+-- such a place (docs/SPEC.md, "The plain room", second paragraph). Assumes nothing.
 use Rattle.std.specs.Prelude.{◌≡◌, ℕ, ◌+◌, ◌-◌, ◌*◌, true, false, cond, List, [], ◌∷◌, ◌++◌, length}
 use Rattle.std.proofs.Math.Option.{Option, none, some}
 use Rattle.unit.specs.Records.{Mark, Record, whole, sample, reset, note, look, Event, took, noted, cut}
@@ -101,7 +101,7 @@ module _ (S : Sensing) where
       (P Q : Place) → room_before P ≡ room_before Q
       → without_looks (cut S.kinds P.behind).records ≡ without_looks (cut S.kinds Q.behind).records → room_at P ≡ room_at Q
 
-  -- Document 01 as it stands: no kind of record is a note, and no call of the host's is one. Then L holds samples alone, and the settings in force are those
+  -- No kind of record is a note, and no call of the host's is one: then L holds samples alone, and the settings in force are those
   -- at the last boundary.
   abbrev pub OnlySamples : List Event → Type 0
   OnlySamples [] = Unit {0}

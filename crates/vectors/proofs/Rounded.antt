@@ -16,12 +16,12 @@ rounded sq (suc n) low high =
     omega arith
 
 -- from a number that is at most 1 below it
-pub from-above : (sq e : ℕ) → e * e < sq + e → e * e + e < sq → sq ≤ e * e + 3 * e + 2 → e + 1 ≡ rounded_root sq
-from-above sq e low more high = rounded sq (e + 1) (omega arith) (omega arith)
+pub from_above : (sq e : ℕ) → e * e < sq + e → e * e + e < sq → sq ≤ e * e + 3 * e + 2 → e + 1 ≡ rounded_root sq
+from_above sq e low more high = rounded sq (e + 1) (omega arith) (omega arith)
 
 -- e = 16,384 - k, where sq / 32,768 is 8,192 - k and k is at most 127: with b = sq % 32,768, its square is sq - b + k * k
-pub near-unit : (sq a : ℕ) → a ≡ sq / 32768 → 8065 ≤ a → a ≤ 8192 → (8192 + a ≤ 16384) × ((8192 + a) * (8192 + a) < sq + (8192 + a)) × (sq ≤ (8192 + a) * (8192 + a) + 3 * (8192 + a) + 2)
-near-unit sq a ea low high =
+pub near_unit : (sq a : ℕ) → a ≡ sq / 32768 → 8065 ≤ a → a ≤ 8192 → (8192 + a ≤ 16384) × ((8192 + a) * (8192 + a) < sq + (8192 + a)) × (sq ≤ (8192 + a) * (8192 + a) + 3 * (8192 + a) + 2)
+near_unit sq a ea low high =
     let k : ℕ = 8192 - a in
     let e : ℕ = 8192 + a in
     let whole : e + k ≡ 16384 = omega arith in

@@ -1,4 +1,4 @@
--- Rules of document 01 about the sine table. Theorems in proofs/Rules.antt. Assumes nothing.
+-- Rules of the sine table. Theorems in proofs/Rules.antt. Assumes nothing.
 use Rattle.std.specs.Prelude.{◌^◌}
 use Rattle.num.specs.Rules.{Ascends, SquaresNear}
 use Rattle.vectors.specs.Tables.{sin_quarter}

@@ -3,7 +3,7 @@ ghost use Rattle.std.specs.Prelude.{◌≡◌, ◌+◌, ◌*◌, ◌^◌, ◌<�
 ghost use Rattle.vectors.specs.Vector.{div_round, rounded_root, missing_ppm, column_ppm};
 
 use crate::{UNIT, UnitVector};
-use window::share::Rows;
+use window::steps::share::Rows;
 
 // The magnitude of a component's mean over as many vectors as there are rows, rounded to the nearest.
 fn mean_magnitude(rows: Rows, a: i32) -> u64
@@ -14,6 +14,7 @@ fn mean_magnitude(rows: Rows, a: i32) -> u64
 }
 
 // The root of sq, rounded to the nearest, where e is at most 1 below it.
+#[tactic(auto, using(crate::proofs::Rounded::rounded, crate::proofs::Rounded::from_above))]
 fn root_from(sq: u32, e: u32) -> u32
     requires { (e ≤ 16384) × (e * e < sq + e) × (sq ≤ e * e + 3 * e + 2) }
     ensures { result ≡ rounded_root sq }
@@ -31,6 +32,7 @@ fn root_of(sq: u32) -> u32
 
 // The same. Less than 1/128 below a whole vector, where still rooms and walks are, one step of Newton's from 16,384 gives
 // it, and no division.
+#[tactic(auto, using(crate::proofs::Rounded::near_unit))]
 fn rounded_root(sq: u32) -> u32
     requires { sq ≤ 2 ^ 29 }
     ensures { result ≡ rounded_root sq }
@@ -42,6 +44,7 @@ fn rounded_root(sq: u32) -> u32
 }
 
 // What a mean vector of this squared length misses of a whole one, in parts per million: 10^6 / 2^14 is 15,625 / 256.
+#[tactic(auto, unfolding(crate::specs::Vector::missing_ppm))]
 fn missing_ppm(sq: u32) -> u32
     requires { sq ≤ 2 ^ 29 }
     ensures { result ≡ missing_ppm sq }
@@ -50,6 +53,7 @@ fn missing_ppm(sq: u32) -> u32
 }
 
 // The circular variance of an angle in each row, in parts per million, where their unit vectors add up to `sum`.
+#[tactic(auto, unfolding(crate::specs::Vector::column_ppm, crate::specs::Vector::mean_square))]
 pub fn column_ppm(rows: Rows, sum: UnitVector) -> u32
     requires { (nat_abs sum.cos ≤ 16384 * rows.w) × (nat_abs sum.sin ≤ 16384 * rows.w) }
     ensures { result ≡ column_ppm rows.w sum.cos sum.sin }

@@ -39,6 +39,7 @@ pub struct SinTable {
 }
 
 impl SinTable {
+    #[tactic(auto, unfolding(crate::specs::Tables::sin_quarter))]
     pub fn new() -> Self {
         SinTable {
             entries: SIN_QUARTER,

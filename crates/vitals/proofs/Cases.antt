@@ -1,4 +1,4 @@
--- Worked cases. The starred ones of document 01 are in the room's bench table. Assumes nothing.
+-- Worked cases; more are in the room's bench table. Assumes nothing.
 use mathlib.Core.Path.{◌≡◌, refl}
 use mathlib.Core.List.{[], ◌∷◌}
 use lib.IntN.{pos, negsuc}

@@ -35,7 +35,7 @@ module _ (s : List ℤ) (n k : ℕ) (h : Highest s (2 + n) k) where
   either true e = stays (le_z-true (at s (3 + n)) (at s k) e)
   either false e = rises (le_z-false (at s (3 + n)) (at s k) e)
 
-highest-from : (s : List ℤ) (n : ℕ) → Highest s (2 + n) (highest s n)
+pub highest-from : (s : List ℤ) (n : ℕ) → Highest s (2 + n) (highest s n)
 unfolding highest
 highest-from s zero = record { low = omega arith; high = omega arith; most = λ j a b. only j a b; lowest = λ j a b. absurd (omega arith) }
   where

@@ -16,7 +16,6 @@ use Rattle.num.proofs.Lists.{take_min}
 use Rattle.num.proofs.SumZ.{sum-size, sum-grown, sum-shrunk}
 use Rattle.vitals.specs.Series.{at, around}
 use Rattle.vitals.specs.Steps.{Samples, Slid, Around}
-use Rattle.vitals.specs.declared.steps.series.Window.{Window}
 
 -- a part of samples
 pub samples-take : (m : ℕ) (x : List ℤ) → Samples x → Samples (take m x)
@@ -32,48 +31,48 @@ slice-size x lo hi h s =
     small : (k : ℕ) → k < hi - lo → nat_abs (at (slice lo hi x) k) ≤ 32768
     small k l = rw (get_or-drop lo (take hi x) k (pos 0), get_or-take hi x (lo + k) (pos 0) (omega arith)) (s (lo + k))
 
-module _ (x : List ℤ) (w : Window) (slid : Slid x w) (few : length x ≤ 512) (s : Samples x) where
-  pub window-size : nat_abs w.sum ≤ 32768 * (w.hi - w.lo)
-  window-size = rw slid.total (slice-size x w.lo w.hi slid.inside s)
+module _ (x : List ℤ) (lo hi : ℕ) (sum : ℤ) (slid : Slid x lo hi sum) (few : length x ≤ 512) (s : Samples x) where
+  pub window_size : nat_abs sum ≤ 32768 * (hi - lo)
+  window_size = rw slid.total (slice-size x lo hi slid.inside s)
 
-  pub room : nat_abs w.sum ≤ 16777216
-  room = omega (arith, window-size, slid.inside)
+  pub room : nat_abs sum ≤ 16777216
+  room = omega (arith, window_size, slid.inside)
 
   -- a sample added or taken off, as the code has it, v being what it reads
   module _ (k : ℕ) (v : ℤ) (e : v ≡ at x k) where
-    pub added : to_z w32 (of_z w32 w.sum) +ℤ to_z w32 (of_z w32 v) ≡ w.sum +ℤ at x k
-    added = rw (e, read-abs w32 w.sum (omega (arith, room)), read-abs w32 (at x k) (omega (arith, s k)))
+    pub added : to_z w32 (of_z w32 sum) +ℤ to_z w32 (of_z w32 v) ≡ sum +ℤ at x k
+    added = rw (e, read-abs w32 sum (omega (arith, room)), read-abs w32 (at x k) (omega (arith, s k)))
 
-    pub added_fits : SFits w32 (to_z w32 (of_z w32 w.sum) +ℤ to_z w32 (of_z w32 v))
-    added_fits = rw added (add-fits w.sum (at x k) (omega (arith, room, s k)))
+    pub added_fits : SFits w32 (to_z w32 (of_z w32 sum) +ℤ to_z w32 (of_z w32 v))
+    added_fits = rw added (add-fits sum (at x k) (omega (arith, room, s k)))
 
-    pub taken : to_z w32 (of_z w32 w.sum) -ℤ to_z w32 (of_z w32 v) ≡ w.sum -ℤ at x k
-    taken = rw (e, read-abs w32 w.sum (omega (arith, room)), read-abs w32 (at x k) (omega (arith, s k)))
+    pub taken : to_z w32 (of_z w32 sum) -ℤ to_z w32 (of_z w32 v) ≡ sum -ℤ at x k
+    taken = rw (e, read-abs w32 sum (omega (arith, room)), read-abs w32 (at x k) (omega (arith, s k)))
 
-    pub taken_fits : SFits w32 (to_z w32 (of_z w32 w.sum) -ℤ to_z w32 (of_z w32 v))
-    taken_fits = rw taken (sub-fits w.sum (at x k) (omega (arith, room, s k)))
+    pub taken_fits : SFits w32 (to_z w32 (of_z w32 sum) -ℤ to_z w32 (of_z w32 v))
+    taken_fits = rw taken (sub-fits sum (at x k) (omega (arith, room, s k)))
 
   -- one sample more at the end, or one less at the start
-  pub longer : (sum : ℤ) → sum ≡ w.sum +ℤ at x w.hi → w.hi < length x → Slid x (record { sum = sum; lo = w.lo; hi = w.hi + 1 })
-  longer sum e h = record {
+  pub longer : (more : ℤ) → more ≡ sum +ℤ at x hi → hi < length x → Slid x lo (hi + 1) more
+  longer more e h = record {
     ordered = omega (arith, slid.ordered);
     inside = omega arith;
-    total = e ∙ ap (λ (z : ℤ). z +ℤ at x w.hi) slid.total ∙ sym (sum-grown x w.lo w.hi slid.ordered h);
+    total = e ∙ ap (λ (z : ℤ). z +ℤ at x hi) slid.total ∙ sym (sum-grown x lo hi slid.ordered h);
   }
 
-  pub shorter : (sum : ℤ) → sum ≡ w.sum -ℤ at x w.lo → w.lo < w.hi → Slid x (record { sum = sum; lo = w.lo + 1; hi = w.hi })
-  shorter sum e h = record {
+  pub shorter : (less : ℤ) → less ≡ sum -ℤ at x lo → lo < hi → Slid x (lo + 1) hi less
+  shorter less e h = record {
     ordered = omega arith;
     inside = slid.inside;
-    total = e ∙ ap (λ (z : ℤ). z -ℤ at x w.lo) slid.total ∙ sym (sum-shrunk x w.lo w.hi h slid.inside);
+    total = e ∙ ap (λ (z : ℤ). z -ℤ at x lo) slid.total ∙ sym (sum-shrunk x lo hi h slid.inside);
   }
 
-module _ (x : List ℤ) (half i : ℕ) (w : Window) (a : Around x half i w) where
-  same-part : slice w.lo w.hi x ≡ around half x i
+module _ (x : List ℤ) (half i lo hi : ℕ) (sum : ℤ) (a : Around x half i lo hi) (slid : Slid x lo hi sum) where
+  same-part : slice lo hi x ≡ around half x i
   same-part = rw (a.low, a.high) (ap (drop (i - half)) (take_min (i + half + 1) x))
 
-  pub around-sum : w.sum ≡ sum_z (around half x i)
-  around-sum = a.slid.total ∙ ap sum_z same-part
+  pub around-sum : sum ≡ sum_z (around half x i)
+  around-sum = slid.total ∙ ap sum_z same-part
 
-  pub around-long : w.hi - w.lo ≡ length (around half x i)
-  around-long = sym (length-slice w.lo w.hi x a.slid.inside) ∙ ap length same-part
+  pub around-long : hi - lo ≡ length (around half x i)
+  around-long = sym (length-slice lo hi x slid.inside) ∙ ap length same-part

@@ -14,7 +14,7 @@ ceil_div a b = (a + (b - 1)) / b
 abbrev pub lags_of : Band → ℕ → Lags
 lags_of b rate = record { lo = max 2 (rate * 1000 / b.hi_mhz); hi = ceil_div (rate * 1000) b.lo_mhz }
 
--- the ranges that refusal 1 names: the rate is 1 to 1,000 and both ends of the band are at least 1
+-- what settings have to keep: the rate is 1 to 1,000 and both ends of the band are at least 1
 unfoldable pub usable : Band → ℕ → Bool
 usable b rate = leb 1 rate && (leb rate 1000 && (leb 1 b.lo_mhz && leb 1 b.hi_mhz))
 

@@ -5,23 +5,21 @@ use Rattle.num.specs.Limits.{max_subcarriers}
 use Rattle.num.specs.Sum.{sum_z, dot_z}
 use Rattle.vitals.specs.Series.{at}
 use Rattle.vitals.specs.Correlation.{energy, corr_of}
-use Rattle.vitals.specs.declared.steps.series.Window.{Window}
 
 -- each sample has 16 bits
 abbrev pub Samples : List ℤ → Type 0
 Samples x = (k : ℕ) → nat_abs (at x k) ≤ 32768
 
--- a window of the series, and its sum
-pub record Slid (x : List ℤ) (w : Window) : Type 0 where
-  pub ordered : w.lo ≤ w.hi
-  pub inside : w.hi ≤ length x
-  pub total : w.sum ≡ sum_z (slice w.lo w.hi x)
+-- the samples from lo to before hi, and their sum
+pub record Slid (x : List ℤ) (lo hi : ℕ) (sum : ℤ) : Type 0 where
+  pub ordered : lo ≤ hi
+  pub inside : hi ≤ length x
+  pub total : sum ≡ sum_z (slice lo hi x)
 
--- the window around sample i
-pub record Around (x : List ℤ) (half i : ℕ) (w : Window) : Type 0 where
-  pub slid : Slid x w
-  pub low : w.lo ≡ i - half
-  pub high : w.hi ≡ min (i + half + 1) (length x)
+-- where the window around sample i begins and ends
+pub record Around (x : List ℤ) (half i lo hi : ℕ) : Type 0 where
+  pub low : lo ≡ i - half
+  pub high : hi ≡ min (i + half + 1) (length x)
 
 -- the products of m samples from k on
 abbrev pub part_of : (a b : List ℤ) → (k m : ℕ) → ℤ

@@ -24,7 +24,7 @@ pub struct Lags {
 // The largest rate.
 pub const MAX_RATE: u32 = 1000;
 
-// Whether the rate and both band ends are in range: else refusal 1.
+// Whether the rate and both ends of the band are in range.
 #[tactic(auto, unfolding(crate::specs::Band::usable))]
 pub fn is_usable(band: Band, rate_hz: u32) -> bool
     ensures { result ≡ usable band rate_hz }

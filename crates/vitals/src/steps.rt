@@ -4,9 +4,10 @@ pub mod divide;
 mod energy;
 pub mod padded;
 mod part;
-pub mod peak;
+mod peak;
 pub mod rate;
-pub mod series;
+mod series;
+pub mod summed;
 
 ghost use Rattle.std.specs.Prelude.{◌≡◌, true};
 ghost use Rattle.vitals.specs.Band.{usable, lags_of};

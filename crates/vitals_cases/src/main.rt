@@ -1,64 +1,59 @@
 // Replays recorded lags and frames: a line for each case. `stdout` holds what the Rust answered.
 #![tactic(auto)]
 
-ghost use Rattle.std.specs.Prelude.{◌*◌, ◌+◌, ◌≤◌, ◌<◌, length};
+ghost use Rattle.std.specs.Prelude.{◌≤◌};
 
 use estimator::{Vitals, VitalsEstimator};
-use num::steps::{u16_at, u32_at};
-use refusal::Refusal;
+use num::steps::word_at;
 use std::io;
 use vitals::band::Band;
 use vitals::config::VitalsConfig;
 use window::COLUMNS;
 
-// The bytes of a band with its rate, and of an estimator's settings. A reset has none, a frame an odd number.
+// The bytes of a band with its rate, of an estimator's settings, and of a frame before its amplitudes. A reset has none, a
+// frame an odd number.
 const BAND: usize = 12;
 
 const SETTINGS: usize = 22;
 
+const HEAD: usize = 5;
+
 // The most block means of a replayed estimator, and their bytes.
 const MOST_BLOCKS: usize = 128;
 
-const ROOM: usize = 16384;
+const ROOM: usize = 2 * MOST_BLOCKS * COLUMNS;
 
-// An estimator: its blocks, settings and state.
-#[derive(Clone, Copy)]
+// An estimator: its rows, blocks, settings and state.
+#[derive(Drop)]
 struct Run {
+    rows: [u8; ROOM],
     n: usize,
     config: VitalsConfig,
     state: VitalsEstimator,
 }
 
-fn refused(rt: &impl Print, refusal: Refusal) -> io::Result<()> {
-    print!(rt; "refused {}", refusal.number())
-}
-
-fn lags(rt: &impl Print, bytes: &[u8]) -> io::Result<()>
-    requires { 12 ≤ length bytes.now }
-{
+fn lags(rt: &impl Print, bytes: &[u8; BAND]) -> io::Result<()> {
     let band = Band {
-        lo_mhz: u32_at(bytes, 0),
-        hi_mhz: u32_at(bytes, 4),
+        lo_mhz: word_at(bytes, 0),
+        hi_mhz: word_at(bytes, 4),
     };
-    match band.lags(u32_at(bytes, 8)) {
+    match band.lags(word_at(bytes, 8)) {
         Ok(lags) => print!(rt; "lags {} {}", lags.lo, lags.hi),
-        Err(refusal) => refused(rt, refusal),
+        Err(refusal) => print!(rt; "{refusal}"),
     }
 }
 
-fn settings(bytes: &[u8]) -> VitalsConfig
-    requires { 22 ≤ length bytes.now }
-{
+fn settings(bytes: &[u8; SETTINGS]) -> VitalsConfig {
     VitalsConfig {
-        decim: u16_at(bytes, 2),
-        rate_hz: u32_at(bytes, 4),
+        decim: word_at(bytes, 2),
+        rate_hz: word_at(bytes, 4),
         band: Band {
-            lo_mhz: u32_at(bytes, 8),
-            hi_mhz: u32_at(bytes, 12),
+            lo_mhz: word_at(bytes, 8),
+            hi_mhz: word_at(bytes, 12),
         },
-        update_every: u16_at(bytes, 16),
-        accept_permille: u16_at(bytes, 18),
-        highpass: u16_at(bytes, 20),
+        update_every: word_at(bytes, 16),
+        accept_permille: word_at(bytes, 18),
+        highpass: word_at(bytes, 20),
     }
 }
 
@@ -66,11 +61,7 @@ fn settings(bytes: &[u8]) -> VitalsConfig
 fn bytes_of(n: usize) -> usize
     ensures { result ≤ 16384 }
 {
-    if n <= MOST_BLOCKS {
-        2 * (n * COLUMNS)
-    } else {
-        ROOM
-    }
+    2 * (n.min(MOST_BLOCKS) * COLUMNS)
 }
 
 // The estimate, if one is due.
@@ -90,78 +81,70 @@ fn estimate(rt: &impl Print, answer: Option<Vitals>) -> io::Result<()> {
 
 impl Run {
     // A new estimator, or the one before where the settings are refused.
-    fn begin(&mut self, rt: &impl Print, rows: &[u8], bytes: &[u8]) -> io::Result<()>
-        requires { (16384 ≤ length rows.now) × (22 ≤ length bytes.now) }
-    {
-        let n = u16_at(bytes, 0) as usize;
+    fn begin(&mut self, rt: &impl Print, bytes: &[u8; SETTINGS]) -> io::Result<()> {
+        let n = usize::from(word_at::<u16>(bytes, 0));
         let config = settings(bytes);
-        match VitalsEstimator::new(&rows[..bytes_of(n)], n, config) {
+        match VitalsEstimator::new(&self.rows[..bytes_of(n)], n, config) {
             Ok(state) => {
-                *self = Run { n, config, state };
+                self.n = n;
+                self.config = config;
+                self.state = state;
                 print!(rt; "new")
             }
-            Err(refusal) => refused(rt, refusal),
+            Err(refusal) => print!(rt; "{refusal}"),
         }
     }
 
-    fn reset(&mut self, rt: &impl Print, rows: &[u8]) -> io::Result<()>
-        requires { 16384 ≤ length rows.now }
-    {
-        match self
-            .state
-            .reset(&rows[..bytes_of(self.n)], self.n, self.config)
-        {
-            Ok(state) => {
-                self.state = state;
-                print!(rt; "reset")
-            }
-            Err(refusal) => refused(rt, refusal),
+    fn reset(&mut self, rt: &impl Print) -> io::Result<()> {
+        let rows = &self.rows[..bytes_of(self.n)];
+        match self.state.reset(rows, self.n, self.config) {
+            Ok(()) => print!(rt; "reset"),
+            Err(refusal) => print!(rt; "{refusal}"),
         }
     }
 
-    // A frame: its time, its count, its amplitudes.
-    fn frame(&mut self, rt: &impl Print, rows: &mut [u8], bytes: &[u8]) -> io::Result<()>
-        requires { (16384 ≤ length rows.old) × (5 ≤ length bytes.now) }
-    {
-        let pushed = self.state.push(
+    // A frame: its time and its count, and its amplitudes.
+    fn frame(&mut self, rt: &impl Print, head: &[u8; HEAD], amplitudes: &[u8]) -> io::Result<()> {
+        let rows = &mut self.rows[..];
+        let answer = self.state.push(
             &mut rows[..bytes_of(self.n)],
             self.n,
             self.config,
-            cases::words(&bytes[5..]),
-            usize::from(bytes[4]),
-            u64::from(u32_at(bytes, 0)),
+            cases::words(amplitudes),
+            usize::from(head[4]),
+            u64::from(word_at::<u32>(head, 0)),
         );
-        match pushed {
-            Ok(pushed) => {
-                self.state = pushed.state;
-                estimate(rt, pushed.answer)
-            }
-            Err(refusal) => refused(rt, refusal),
+        match answer {
+            Ok(answer) => estimate(rt, answer),
+            Err(refusal) => print!(rt; "{refusal}"),
         }
     }
 
-    fn line(&mut self, rt: &impl Print, rows: &mut [u8], bytes: &[u8]) -> io::Result<()>
-        requires { 16384 ≤ length rows.old }
-    {
-        match bytes.len() {
-            0 => self.reset(rt, rows),
-            BAND => lags(rt, bytes),
-            SETTINGS => self.begin(rt, rows, bytes),
-            1..5 => Ok(()),
-            _ => self.frame(rt, rows, bytes),
+    // A case is of the kind that its length tells.
+    fn line(&mut self, rt: &impl Print, bytes: &[u8]) -> io::Result<()> {
+        if let Ok(band) = <&[u8; BAND]>::try_from(bytes) {
+            return lags(rt, band);
+        }
+        if let Ok(settings) = <&[u8; SETTINGS]>::try_from(bytes) {
+            return self.begin(rt, settings);
+        }
+        match bytes.split_first_chunk::<HEAD>() {
+            Some((head, amplitudes)) => self.frame(rt, head, amplitudes),
+            None if bytes.is_empty() => self.reset(rt),
+            None => Ok(()),
         }
     }
 }
 
 fn main(rt: HostRuntime) -> io::Result<()> {
-    let mut rows = [0u8; ROOM];
     let mut run = Run {
+        rows: [0; ROOM],
         n: MOST_BLOCKS,
         config: VitalsConfig::breathing(50),
         state: VitalsEstimator::blank(),
     };
-    cases::each::<256, _>(&rt, |case| {
-        run.line(&rt, &mut rows, case)?;
+    cases::steps::each::<256, _>(&rt, |case| {
+        run.line(&rt, case)?;
         println!(rt; "")
     })
 }

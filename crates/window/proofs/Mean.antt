@@ -2,7 +2,7 @@
 use mathlib.Core.Path.{◌≡◌, refl, ap}
 use mathlib.Core.List.{List}
 use Prim.Native.Nat.{ℕ, zero, suc, ◌+◌, ◌*◌, ◌/◌, ◌<◌, ◌≤◌, zero-le}
-use native.Mathlib.Nat.{div-le_of_le-mul, suc-mul}
+use native.Mathlib.Nat.{suc-mul}
 use native.Mathlib.Numerals.{add-one}
 use native.Mathlib.Omega.{arith}
 use lib.ListN.{length, get_or}
@@ -50,8 +50,3 @@ module _ (S : Summing) (lawful : Lawful S) (term : ℕ → S.Number → S.Number
         window-total S lawful S.f next n rows w len k h,
         window-total S lawful S.g next n rows w len k h,
       ))))
-
-  -- its size
-  pub mean-le : (m w n : ℕ) (fs gs : List S.Number) → ((sc : ℕ) → sc < n → term w (get_or fs sc S.none) (get_or gs sc S.none) ≤ m) → carried_mean S term w n fs gs ≤ m
-  unfolding carried_mean
-  mean-le m w n fs gs h = div-le_of_le-mul n (sum_to-le n m (λ sc. term w (get_or fs sc S.none) (get_or gs sc S.none)) h)

@@ -1,19 +1,17 @@
 -- Laws of the ring in memory, for every sum: an entry lies within it, one stored entry keeps the sums carried, the sums are of the size that
 -- their number of rows allows, and cleared memory is a ring. Assumes nothing.
-use mathlib.Core.Path.{◌≡◌, sym, ap, ◌∙◌, subst}
+use mathlib.Core.Path.{◌≡◌, sym, ap, ◌∙◌}
 use mathlib.Core.List.{List, []}
 use Prim.Native.Nat.{ℕ, ◌+◌, ◌*◌, ◌<◌, ◌≤◌}
 use native.Mathlib.Omega.{arith}
 use lib.Arith.{digits_lt}
-use lib.ListN.{length, take, get_or, set, replicate, length-replicate, get_or-replicate}
-use lib.Seq.{length-take-le, get_or-take, take_all}
+use lib.ListN.{length, get_or, set, replicate, length-replicate, get_or-replicate}
 use Rattle.num.proofs.Lists.{all_same}
 use Rattle.window.specs.Words.{words, put_word}
 use Rattle.window.specs.Window.{max_rows, column, ring_rows}
-use Rattle.window.specs.Sums.{total_by, Summing, Lawful, column_sum, Ring}
+use Rattle.window.specs.Sums.{total_by, Summing, Lawful, Ring}
 use Rattle.window.proofs.Words.{words-put, words-below, zero-words, length-put, length-words}
-use Rattle.window.proofs.Totals.{total_size}
-use Rattle.window.proofs.Rows.{length_cut, length-row, cut_at, cut-set, length-column, column-at, column-take, carried-set}
+use Rattle.window.proofs.Rows.{length_cut, length-row, cut_at, cut-set, length-column, column-at, carried-set}
 
 module _ (w c : ℕ) (bytes : List ℕ) where
   -- both bytes of an entry of the ring are there
@@ -37,25 +35,6 @@ module _ (w c : ℕ) (bytes : List ℕ) where
   pub column-below : ((i : ℕ) → get_or bytes i 0 < 256) → (sc : ℕ) → sc < c → (i : ℕ) → i < length (column (ring_rows w c bytes) sc) → get_or (column (ring_rows w c bytes) sc) i 0 < 65536
   column-below bytes_fit sc k i h =
       omega (arith, ring-at i sc (omega (arith, length-ring-column sc)) k, words-below bytes bytes_fit (i * c + sc))
-
-  -- the size of a column's sum, over the first n rows and over all, for a term of 16 bits of a size of at most m
-  module _ (S : Summing) (size : S.Number → ℕ) (of_none : size S.none ≤ 0) (of-sum : (a b : S.Number) → size (S.add a b) ≤ size a + size b)
-      (f : ℕ → S.Number) (m : ℕ) (of-term : (x : ℕ) → x < 65536 → size (f x) ≤ m) (bytes_fit : (i : ℕ) → get_or bytes i 0 < 256)
-    where
-      pub part-size : (n : ℕ) → n ≤ w → (sc : ℕ) → sc < c → size (column_sum S f (take n (ring_rows w c bytes)) sc) ≤ n * m
-      part-size n most sc k =
-          let col : List ℕ = column (ring_rows w c bytes) sc in
-          let len : length col ≡ w = length-ring-column sc in
-          let part : length (take n col) ≡ n = length-take-le n col (omega arith) in
-          rw (column-take n (ring_rows w c bytes) sc)
-          (subst (λ (r : ℕ). size (total_by S.add S.none f (take n col)) ≤ r * m) part
-          (total_size S.add S.none size of_none of-sum f m (take n col)
-          (λ i h. rw (get_or-take n col i 0 (omega arith)) (of-term (get_or col i 0) (column-below bytes_fit sc k i (omega arith))))))
-
-      pub column-size : (sc : ℕ) → sc < c → size (column_sum S f (ring_rows w c bytes) sc) ≤ w * m
-      column-size sc k =
-          subst (λ (l : List (List ℕ)). size (column_sum S f l sc) ≤ w * m)
-          (take_all w (ring_rows w c bytes) (omega (arith, length_cut w c (words bytes)))) (part-size w (omega arith) sc k)
 
   module _ (S : Summing) (lawful : Lawful S) (fs gs : List S.Number) (ring : Ring S w c bytes fs gs) where
     -- one entry stored, with its column's sums changed by as much

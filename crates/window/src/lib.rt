@@ -3,7 +3,6 @@
 
 ghost use Rattle.std.specs.Prelude.{◌≡◌, length, replicate};
 
-pub mod share;
 pub mod steps;
 
 // Entries in a row: one for each subcarrier.

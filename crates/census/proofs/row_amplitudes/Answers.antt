@@ -3,7 +3,7 @@ use mathlib.Core.Path.{sym, ◌∙◌}
 use Rattle.std.proofs.Common.{rules}
 use Rattle.num.proofs.Grid.{map-build}
 use Rattle.csi.specs.Features.{amplitude_of}
-use Rattle.phase.proofs.Made.{made}
+use Rattle.num.proofs.Made.{made}
 use Rattle.census.specs.Census.{bytes, signed_byte, signed_bytes}
 use Rattle.census.specs.Rows.{row_amplitudes}
 use Rattle.census.proofs.row_amplitudes.Goals as goal

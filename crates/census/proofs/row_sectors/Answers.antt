@@ -2,7 +2,7 @@
 use mathlib.Core.Path.{sym, ◌∙◌}
 use Rattle.std.proofs.Common.{rules}
 use Rattle.num.proofs.Grid.{map-build}
-use Rattle.phase.proofs.Made.{made}
+use Rattle.num.proofs.Made.{made}
 use Rattle.census.specs.Census.{bytes, signed_byte, signed_bytes, sector_in}
 use Rattle.census.specs.Rows.{row_sectors}
 use Rattle.census.proofs.row_sectors.Goals as goal

@@ -12,5 +12,5 @@ within n l =
 pub pow-total-requires : goal.pow-total-requires
 pow-total-requires g c = let w = within c.args.frames c.requires in omega (arith, w.1)
 
-pub line-requires : goal.line-requires
-line-requires g c = rw c.pow-total.ensures (within c.args.frames c.requires).0
+pub invariant_of-line : goal.invariant_of-line
+invariant_of-line g c = rw c.pow-total.ensures (record { some = (within c.args.frames c.requires).0 })

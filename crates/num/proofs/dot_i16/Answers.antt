@@ -6,8 +6,8 @@ use Prim.Native.Nat.{ℕ, ◌+◌, ◌*◌, ◌^◌, ◌≤◌, min}
 use native.Mathlib.Nat.{mul-le-mul}
 use native.Mathlib.Omega.{arith}
 use borrow.Author.Rules.{rules}
-use lib.IntN.{ℤ, pos, nat_abs, ◌+ℤ◌, ◌*ℤ◌, +ℤ_idl, +ℤ_idr, +ℤ_assoc}
-use lib.ListN.{length, take, length-take}
+use lib.IntN.{ℤ, pos, nat_abs, ◌+ℤ◌, ◌*ℤ◌, +ℤ_idr, +ℤ_assoc}
+use lib.ListN.{length, take}
 use mir.Syntax.{w16, w64}
 use mir.Val.{SFits, to_z, of_z}
 use mir.Facts.{to_z-of_z}
@@ -18,12 +18,6 @@ use Rattle.num.proofs.Sum.{dot-nil, dot-terms}
 use Rattle.num.proofs.Read.{read-16-64}
 use Rattle.num.proofs.dot_i16.Invariants.{Summed}
 use Rattle.num.proofs.dot_i16.Goals as goal
-
-start : (xs ys us vs : List ℤ) (n : ℕ) → us ≡ take n xs → vs ≡ ys → Summed xs ys n (pos 0) us vs
-start xs ys us vs n eu ev = record {
-  split = sym (+ℤ_idl (dot_z us vs) ∙ ap₂ dot_z eu ev);
-  small = omega (arith, ap (λ (l : List ℤ). length l) eu, length-take n xs);
-}
 
 -- what a turn of the loop gives
 record Turn (xs ys : List ℤ) (n : ℕ) (sum x y : ℤ) (us vs : List ℤ) : Type 0 where
@@ -65,12 +59,6 @@ module _ (c : goal.After-from-in-loop-x) where
 
   from-y : to_z w64 (of_z w64 c.from-in-loop-x.result) ≡ c.in-Some.y.now
   from-y = let e = c.from-in-loop-x.ensures ∙ to_z-of_z y-fits in rw e (read-16-64 y-fits)
-
-pub loop-x-init : goal.loop-x-init
-loop-x-init c = start c.args.a.now c.args.b.now c.into_iter-x-iterator.result.a.rest.now c.into_iter-x-iterator.result.b.rest.now c.terms-n.result (search rules) (search rules)
-
-pub overflow_mul-sum : goal.overflow_mul-sum
-overflow_mul-sum c = rw (from-x c, from-y c) (gives c).term_fits
 
 pub overflow_add-sum : goal.overflow_add-sum
 overflow_add-sum c = rw (from-x c, from-y c, to_z-of_z (gives c).term_fits) (gives c).sum_fits

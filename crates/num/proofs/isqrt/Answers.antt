@@ -1,28 +1,15 @@
 -- `num::isqrt` meets its contract: an estimate for the shifted word, shifted down, is one for the word. Assumes nothing.
 use Prim.Native.Nat.{ℕ, ◌^◌, ◌<◌}
-use native.Mathlib.Nat.{div-le_self}
 use native.Mathlib.Omega.{arith}
 use Rattle.num.proofs.Root.{root-unique, root_below}
-use Rattle.num.proofs.Scale.{places, places-lt, scaled-least, near-unscaled}
+use Rattle.num.proofs.Scale.{scaled-least, near-unscaled}
 use Rattle.num.proofs.isqrt.Goals as goal
 
 pub returns-then-v-eq0 : goal.returns-then-v-eq0
 returns-then-v-eq0 c = root-unique c.args.v 0 (omega arith) (omega arith)
 
-pub overflow_mul-c : goal.overflow_mul-c
-overflow_mul-c c = omega (arith, places-lt 32 c.args.v (omega arith) c.ranges.v.fits)
-
-pub overflow_shl-v : goal.overflow_shl-v
-overflow_shl-v c = places-lt 32 c.args.v (omega arith) c.ranges.v.fits
-
 pub near-requires : goal.near-requires
 near-requires c = omega (arith, scaled-least 32 c.args.v (omega arith) c.ranges.v.fits)
-
-pub overflow_shr-near : goal.overflow_shr-near
-overflow_shr-near c = omega (arith, places-lt 32 c.args.v (omega arith) c.ranges.v.fits)
-
-pub overflow_cast-near : goal.overflow_cast-near
-overflow_cast-near c = omega (arith, div-le_self c.near.result (2 ^ places 32 c.args.v))
 
 pub settle-requires : goal.settle-requires
 settle-requires c =

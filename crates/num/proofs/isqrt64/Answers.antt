@@ -1,13 +1,12 @@
 -- `num::isqrt64` meets its contract: an estimate for the upper half of the shifted word, made finer by a division, is one for the whole,
 -- and shifted down it is one for the word. Assumes nothing.
 use Prim.Native.Nat.{ℕ, ◌+◌, ◌*◌, ◌/◌, ◌^◌, ◌≤◌, ◌<◌}
-use native.Mathlib.Nat.{div-le_self}
 use native.Mathlib.Omega.{arith}
 use lib.Dec.{lit<}
 use Rattle.num.specs.Root.{Near}
 use Rattle.num.proofs.Root.{root-unique}
 use Rattle.num.proofs.Estimate.{near-finer, near-least}
-use Rattle.num.proofs.Scale.{scaled, places-lt, scaled-least, near-unscaled}
+use Rattle.num.proofs.Scale.{scaled, scaled-least, near-unscaled}
 use Rattle.num.proofs.isqrt64.Goals as goal
 
 -- the estimate for the upper half has no leading zero among its sixteen bits
@@ -21,30 +20,8 @@ module _ (v b : ℕ) (pos : 0 < v) (fits : v < 2 ^ 64) (near : Near (scaled 64 v
 pub returns-then-v-eq0 : goal.returns-then-v-eq0
 returns-then-v-eq0 c = root-unique c.args.v 0 (omega arith) (omega arith)
 
-pub overflow_mul-n : goal.overflow_mul-n
-overflow_mul-n c = omega (arith, places-lt 64 c.args.v (omega arith) c.ranges.v.fits)
-
-pub overflow_cast-n : goal.overflow_cast-n
-overflow_cast-n c = omega (arith, places-lt 64 c.args.v (omega arith) c.ranges.v.fits)
-
-pub overflow_shl-n : goal.overflow_shl-n
-overflow_shl-n c = places-lt 64 c.args.v (omega arith) c.ranges.v.fits
-
 pub near-b-requires : goal.near-b-requires
 near-b-requires c = omega (arith, scaled-least 64 c.args.v (omega arith) c.ranges.v.fits)
-
-pub nonzero_div-n : goal.nonzero_div-n
-nonzero_div-n c =
-    omega (arith, half-least c.args.v c.near-b.result (omega arith) c.ranges.v.fits c.near-b.ensures)
-
-pub overflow_add-b : goal.overflow_add-b
-overflow_add-b c = omega (arith, div-le_self (scaled 64 c.args.v / 2 ^ 17) c.near-b.result)
-
-pub overflow_cast-c : goal.overflow_cast-c
-overflow_cast-c c = omega (arith, places-lt 64 c.args.v (omega arith) c.ranges.v.fits)
-
-pub overflow_shr-b : goal.overflow_shr-b
-overflow_shr-b c = omega (arith, places-lt 64 c.args.v (omega arith) c.ranges.v.fits)
 
 pub settle-requires : goal.settle-requires
 settle-requires c =

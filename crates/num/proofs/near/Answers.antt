@@ -1,11 +1,11 @@
 -- `num::near` meets its contract: the line gives an estimate of the root of the upper eight bits, the first division one of the upper
 -- sixteen, and the second one of n. Assumes nothing.
 use Prim.Native.Nat.{ℕ, ◌+◌, ◌*◌, ◌/◌, ◌^◌, ◌≤◌, ◌<◌}
-use native.Mathlib.Nat.{div-div-eq-div-mul, div-le_self}
+use native.Mathlib.Nat.{div-div-eq-div-mul}
 use native.Mathlib.Omega.{arith}
 use lib.Dec.{lit<}
 use Rattle.num.specs.Root.{Near}
-use Rattle.num.proofs.Estimate.{near-line, near-finer, near-least, near-most}
+use Rattle.num.proofs.Estimate.{near-line, near-finer, near-least}
 use Rattle.num.proofs.near.Goals as goal
 
 abbrev first : ℕ → ℕ
@@ -21,22 +21,8 @@ module _ (n : ℕ) (low : 2 ^ 30 ≤ n) (high : n < 2 ^ 32) where
       let eight : Near (n / 2 ^ 16 / 2 ^ 8) (first n) = rw (div-div-eq-div-mul n (2 ^ 16) (2 ^ 8)) upper in
       rw (div-div-eq-div-mul n (2 ^ 16) (2 ^ 5)) at (near-finer 8 (first n) (n / 2 ^ 16) (lit< tt) (omega arith) eight)
 
-  second-most : second n ≤ 2 ^ 8
-  second-most = near-most (n / 2 ^ 16) (second n) (2 ^ 8) near-second (omega arith)
-
   second-least : 2 ^ 7 ≤ second n
   second-least = near-least (n / 2 ^ 16) (second n) (2 ^ 7) near-second (omega arith)
-
-pub overflow_add-b : goal.overflow_add-b
-overflow_add-b c = omega (arith, second-most c.args.n c.requires c.ranges.n.fits)
-
-pub overflow_mul-result : goal.overflow_mul-result
-overflow_mul-result c = omega (arith, second-most c.args.n c.requires c.ranges.n.fits)
-
-pub overflow_add-result : goal.overflow_add-result
-overflow_add-result c =
-    let n : ℕ = c.args.n in
-    omega (arith, second-most n c.requires c.ranges.n.fits, div-le_self (n / 2 ^ 9) (second n))
 
 pub returns : goal.returns
 returns c =

@@ -1,10 +1,10 @@
 -- `num::settle` meets its contract: the root is the estimate's predecessor or the number after that. Assumes nothing.
 use mathlib.Core.Path.{◌≡◌}
-use Prim.Native.Nat.{ℕ, ◌+◌, ◌-◌, ◌*◌, ◌^◌, ◌≤◌, ◌<◌}
+use Prim.Native.Nat.{ℕ, ◌+◌, ◌-◌, ◌*◌, ◌≤◌, ◌<◌}
 use native.Mathlib.Omega.{arith}
 use Rattle.num.specs.Root.{root, Near}
 use Rattle.num.proofs.Root.{root-unique}
-use Rattle.num.proofs.Estimate.{near-least, near-most}
+use Rattle.num.proofs.Estimate.{near-least}
 use Rattle.num.proofs.settle.Goals as goal
 
 module _ (v e : ℕ) (pos : 0 < v) (near : Near v e) where
@@ -20,12 +20,6 @@ upper v r high h = root-unique v (r + 1) (omega arith) (omega arith)
 
 lower : (v r : ℕ) → r * r < v → v - r * r ≤ 2 * r → r ≡ root v
 lower v r low h = root-unique v r (omega arith) (omega arith)
-
-pub overflow_sub-r : goal.overflow_sub-r
-overflow_sub-r c = one-least c.args.v c.args.estimate c.requires.v_nonzero c.requires.near
-
-pub overflow_mul-r : goal.overflow_mul-r
-overflow_mul-r c = omega (arith, near-most c.args.v c.args.estimate (2 ^ 32) c.requires.near (omega arith))
 
 pub returns-then-r-v : goal.returns-then-r-v
 returns-then-r-v c =

@@ -1,9 +1,6 @@
--- `tables::alternating` meets its contract: the loop has the terms from the k-th on. Assumes nothing.
-use mathlib.Core.Path.{◌≡◌}
-use Prim.Native.Nat.{◌≤◌}
-use lib.ListN.{length, get_or, drop}
-use Rattle.tables.specs.Tables.{sine_terms, alternating}
+-- `tables::alternating` meets its contract: the loop has the series of the terms behind those that are left. Assumes nothing.
+use Rattle.tables.proofs.Terms.{Behind}
 use Rattle.tables.proofs.alternating.Given as goal
 
-abbrev pub invariant-loop-k : goal.invariant-loop-k
-invariant-loop-k l = (l.k ≤ length sine_terms) × (l.x ≡ alternating l.s l.q (drop l.k sine_terms)) × (l.x ≤ get_or sine_terms l.k 0)
+abbrev pub invariant-loop-a : goal.invariant-loop-a
+invariant-loop-a l = Behind l.s l.q l.a-iterator.iter.rest.now l.x

@@ -1,11 +1,10 @@
-// Sums of products of samples that are a lag apart, and what the columns' come to (vitals.rs, `estimate`).
-ghost use Rattle.std.specs.Prelude.{◌≡◌, ◌+◌, ◌*◌, ◌≤◌, ◌<◌, length, take, nat_abs, ◌+ℤ◌};
-ghost use Rattle.num.specs.Limits.{max_subcarriers};
+// Sums of products of samples that are a lag apart (vitals.rs, `estimate`).
+ghost use Rattle.std.specs.Prelude.{◌≡◌, ◌+◌, ◌≤◌, ◌<◌, length, take, nat_abs};
 ghost use Rattle.num.specs.Sum.{dot_z};
 ghost use Rattle.vitals.specs.Correlation as spec;
 ghost use Rattle.vitals.specs.Correlation.{energy, corr_of};
 ghost use Rattle.vitals.specs.Energy.{most_energy};
-ghost use Rattle.vitals.specs.Steps.{Summable, ZerosFrom, block_len, most_summed, Within, Added, Joined};
+ghost use Rattle.vitals.specs.Steps.{Summable, ZerosFrom, block_len};
 
 use crate::steps::energy::Energy;
 use crate::steps::padded::Padded;
@@ -33,7 +32,7 @@ const MOST: u64 = 2147483647;
 
 impl Padded {
     // The sum of the squares.
-    fn energy(&self) -> u64
+    pub(crate) fn energy(&self) -> u64
         ensures { (result ≡ energy self.now) × (result ≤ most_energy) }
     {
         num::sum_sq_i16(&self.room[..self.n]) as u64
@@ -53,42 +52,10 @@ impl Padded {
     }
 
     // The correlation of the series with itself, `lag` samples apart.
-    fn correlation(&self, lag: usize, e: Energy) -> i32
+    pub(crate) fn correlation(&self, lag: usize, e: Energy) -> i32
         requires { (lag < length self.now) × (e.n ≡ length self.now) × (e.sum ≡ spec.energy self.now) }
         ensures { (result ≡ corr_of self.now lag) × (nat_abs result ≤ 2000) }
     {
         e.rho(self.lagged(lag, e.sum), lag)
     }
-
-    // The correlations added to the sums, for the lags from 1 to `hi` + 1; `used` columns are in the sums.
-    fn add_lags(&self, e: Energy, summed: &mut [i32], hi: usize, used: usize)
-        requires long { (hi + 1 < length self.now) × (e.n ≡ length self.now) × (e.sum ≡ spec.energy self.now) }
-        requires room { (hi + 2 ≤ length summed.old) × (used < max_subcarriers) × Within (2000 * used) summed.old }
-        ensures { Added self.now (hi + 1) summed.old summed.new × Within (2000 * (used + 1)) summed.new }
-    {
-        for lag in 1..hi + 2 {
-            summed[lag] = plus_corr(summed[lag], self.correlation(lag, e));
-        }
-    }
-
-    // The same of a series that may have no energy: it is then left out. How many columns are in the sums.
-    pub fn add_to(&self, summed: &mut [i32], hi: usize, used: usize) -> usize
-        requires { (hi + 1 < length self.now) × (hi + 2 ≤ length summed.old) × (used < max_subcarriers) × Within (2000 * used) summed.old }
-        ensures { Joined self.now (hi + 1) used summed.old result summed.new }
-    {
-        let energy = self.energy();
-        if energy == 0 {
-            return used;
-        }
-        self.add_lags(Energy::new(energy, self.n), summed, hi, used);
-        used + 1
-    }
-}
-
-// A sum and one more correlation.
-fn plus_corr(sum: i32, v: i32) -> i32
-    requires { (nat_abs sum ≤ most_summed) × (nat_abs v ≤ 2000) }
-    ensures { result ≡ sum +ℤ v }
-{
-    sum + v
 }

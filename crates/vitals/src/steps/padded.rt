@@ -4,7 +4,7 @@ ghost use Rattle.vitals.specs.Series.{centred, highpassed};
 ghost use Rattle.vitals.specs.Steps.{ZerosFrom, Samples};
 
 use crate::steps::correlation::BLOCK;
-use crate::steps::series::{MAX_SAMPLES, centre, highpass};
+use crate::steps::series::{MAX_SAMPLES, Series, lower};
 use std::marker::Model;
 
 // Room for the longest series, and a block of zeros.
@@ -43,12 +43,22 @@ impl Padded {
         room[k] = v;
     }
 
-    // The samples of `x` less their mean, in place of its own.
-    pub fn centre_of(&mut self, x: &Padded)
-        requires { (1 ≤ length x.now) × (length self.old ≡ length x.now) }
-        ensures { self.new ≡ centred x.now }
+    // Its samples, as a series.
+    fn series(&self) -> Series<'_>
+        ensures { result.samples.now ≡ self.now }
     {
-        centre(&x.room[..x.n], &mut self.room[..x.n]);
+        Series {
+            samples: &self.room[..self.n],
+        }
+    }
+
+    // The samples less their mean.
+    pub fn centre(&mut self)
+        requires { 1 ≤ length self.old }
+        ensures { self.new ≡ centred self.old }
+    {
+        let mean = self.series().mean();
+        lower(&mut self.room[..self.n], mean);
     }
 
     // The samples of `x` less their moving average of m, in place of its own.
@@ -56,6 +66,6 @@ impl Padded {
         requires { length self.old ≡ length x.now }
         ensures { self.new ≡ highpassed m x.now }
     {
-        highpass(&x.room[..x.n], &mut self.room[..x.n], m);
+        x.series().highpass(m, &mut self.room[..self.n]);
     }
 }

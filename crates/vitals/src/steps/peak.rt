@@ -1,49 +1,10 @@
-// The first significant peak of the summed correlation, which is held by lag (vitals.rs, `estimate`).
-ghost use Rattle.std.specs.Prelude.{◌≡◌, ◌+◌, ◌-◌, ◌≤◌, ◌<◌, length, nat_abs};
+// The first significant peak of the summed correlations (vitals.rs, `estimate`).
+ghost use Rattle.std.specs.Prelude.{◌≡◌, ◌-◌, ◌≤◌, nat_abs};
 ghost use Rattle.vitals.specs.Peak as spec;
 ghost use Rattle.vitals.specs.Peak.{is_peak, peak_or, floor_of, best_lag};
-ghost use Rattle.vitals.specs.Steps.{most_summed, Within};
+ghost use Rattle.vitals.specs.Steps.{most_summed};
 
-// Whether the value at `lag` reaches the floor and both its neighbours.
-fn is_peak(summed: &[i32], lag: usize, floor: i32) -> bool
-    requires { (1 ≤ lag) × (lag + 1 < length summed.now) }
-    ensures { result ≡ is_peak summed.now floor lag }
-{
-    let value = summed[lag];
-    floor <= value && summed[lag - 1] <= value && summed[lag + 1] <= value
-}
-
-// The lag from 2 to `hi` of the highest value, the lowest such lag.
-fn highest(summed: &[i32], hi: usize) -> usize
-    requires { (2 ≤ hi) × (hi < length summed.now) }
-    ensures { (result ≡ spec.highest summed.now (hi - 2)) × (2 ≤ result) × (result ≤ hi) }
-{
-    let mut best = 2;
-    for lag in 3..hi + 1 {
-        if summed[best] < summed[lag] {
-            best = lag;
-        }
-    }
-    best
-}
-
-// The first peak from lag 2 to `hi` that reaches the floor, or `top` where there is none.
-fn first_peak(summed: &[i32], hi: usize, floor: i32, top: usize) -> usize
-    requires { (2 ≤ hi) × (hi + 1 < length summed.now) × (2 ≤ top) × (top ≤ hi) }
-    ensures { (result ≡ peak_or summed.now hi floor top) × (2 ≤ result) × (result ≤ hi) }
-{
-    let mut lag: usize = 2;
-    let best = loop {
-        if lag > hi {
-            break top;
-        }
-        if is_peak(summed, lag, floor) {
-            break lag;
-        }
-        lag = lag + 1;
-    };
-    best
-}
+use crate::steps::summed::Summed;
 
 // What a peak has to reach.
 fn floor_of(global: i32) -> i32
@@ -57,11 +18,52 @@ fn floor_of(global: i32) -> i32
     }
 }
 
-// The lag that the rate is read from.
-pub fn best_lag(summed: &[i32], hi: usize) -> usize
-    requires { (2 ≤ hi) × (hi + 1 < length summed.now) × Within most_summed summed.now }
-    ensures { (result ≡ best_lag summed.now hi) × (2 ≤ result) × (result ≤ hi) }
-{
-    let top = highest(summed, hi);
-    first_peak(summed, hi, floor_of(summed[top]), top)
+impl Summed {
+    // Whether the value at `lag` reaches the floor and both its neighbours.
+    fn is_peak(&self, lag: usize, floor: i32) -> bool
+        requires { (1 ≤ lag) × (lag ≤ self.now.lags.hi) }
+        ensures { result ≡ is_peak self.now.by_lag floor lag }
+    {
+        let value = self.by_lag[lag];
+        floor <= value && self.by_lag[lag - 1] <= value && self.by_lag[lag + 1] <= value
+    }
+
+    // The band's lag from 2 on of the highest value, the lowest such lag.
+    fn highest(&self) -> usize
+        ensures { (result ≡ spec.highest self.now.by_lag (self.now.lags.hi - 2)) × (2 ≤ result) × (result ≤ self.now.lags.hi) }
+    {
+        let mut best = 2;
+        for lag in 3..self.lags.hi + 1 {
+            if self.by_lag[best] < self.by_lag[lag] {
+                best = lag;
+            }
+        }
+        best
+    }
+
+    // The band's first peak from lag 2 on that reaches the floor, or `top` where there is none.
+    fn first_peak(&self, floor: i32, top: usize) -> usize
+        requires { (2 ≤ top) × (top ≤ self.now.lags.hi) }
+        ensures { (result ≡ peak_or self.now.by_lag self.now.lags.hi floor top) × (2 ≤ result) × (result ≤ self.now.lags.hi) }
+    {
+        let mut lag: usize = 2;
+        let best = loop {
+            if lag > self.lags.hi {
+                break top;
+            }
+            if self.is_peak(lag, floor) {
+                break lag;
+            }
+            lag = lag + 1;
+        };
+        best
+    }
+
+    // The lag that the rate is read from.
+    pub fn best_lag(&self) -> usize
+        ensures { (result ≡ best_lag self.now.by_lag self.now.lags.hi) × (2 ≤ result) × (result ≤ self.now.lags.hi) }
+    {
+        let top = self.highest();
+        self.first_peak(floor_of(self.by_lag[top]), top)
+    }
 }

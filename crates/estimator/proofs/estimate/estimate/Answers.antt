@@ -2,14 +2,13 @@
 use mathlib.Core.Path.{◌≡◌, ap, ◌∙◌}
 use Prim.Native.Nat.{ℕ, ◌+◌, ◌-◌, ◌≤◌, min}
 use native.Mathlib.Omega.{arith}
-use lib.ListN.{length, length-take, length-replicate}
-use lib.IntN.{ℤ, pos}
+use lib.ListN.{length}
 use Rattle.vitals.specs.Band.{lags_of}
 use Rattle.vitals.specs.declared.band.Lags.{Lags}
 use Rattle.vitals.proofs.Facts.{usable-facts}
 use Rattle.estimator.specs.Steps.{blocks_in}
 use Rattle.estimator.specs.Estimate.{lowest, longest, rhythm_of, columns_of}
-use Rattle.estimator.proofs.Whole.{estimate-none, estimate-wide, estimate-some, full-long, zero-part}
+use Rattle.estimator.proofs.Whole.{estimate-none, estimate-wide, estimate-some, full-long}
 use Rattle.estimator.proofs.estimate.estimate.Goals as goal
 use Rattle.estimator.proofs.estimate.estimate.Goals.{then-hi-lo-via-then-hi-lo, then-hi-lo-via-else-hi-lo+then-hi-gt-MAX_LAGS}
 
@@ -31,10 +30,7 @@ over_columns-requires c =
     let two : 2 ≤ c.lags-lags.result.lo = rw e (omega arith) in
     let fast = (usable-facts c.args.config.band c.args.config.rate_hz c.requires.1).fast in
     let wide : c.min-hi.result + 1 ≤ 128 = c.if-hi-gt-MAX_LAGS.false in
-    record {
-      le_n = (ap length c.zeros-a.ensures ∙ length-replicate {A = ℤ} c.args.view.n (pos 0), ap length c.zeros-b.ensures ∙ length-replicate {A = ℤ} c.args.view.n (pos 0));
-      le_hi = (omega arith, omega arith, omega arith, simp (length-take, length-replicate) (omega arith), λ k. rw (zero-part k 129 (c.min-hi.result + 2)) (omega arith), fast);
-    }
+    (omega arith, omega arith, omega arith, fast)
 
 pub returns : goal.returns
 returns c =

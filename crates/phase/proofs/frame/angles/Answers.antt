@@ -5,7 +5,7 @@ use Prim.Native.Nat.{◌-◌}
 use Rattle.std.proofs.Common.{rules}
 use Rattle.csi.specs.Layout.{entries_of, up_from}
 use Rattle.csi.proofs.Entries.{length-entries}
-use Rattle.num.proofs.Placed.{map-append}
+use Rattle.std.proofs.lemmas.List.{map-append}
 use Rattle.phase.specs.Angle.{entry_angle}
 use Rattle.phase.proofs.frame.angles.Goals as goal
 

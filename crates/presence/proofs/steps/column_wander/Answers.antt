@@ -12,18 +12,18 @@ module _ (c : goal.After-scaled_root) where
   deviation-is : c.scaled_root.result / c.args.rows.w
       ≡ deviation16 c.args.rows.w c.args.sum c.args.sumsq
   deviation-is =
-      ap (λ (n : ℕ). n / c.args.rows.w) (c.scaled_root.ensures ∙ ap (λ (v : ℕ). root (256 * v)) c.saturating_sub-var_w2.ensures)
+      ap (λ (n : ℕ). n / c.args.rows.w) (c.scaled_root.ensures ∙ ap (λ (v : ℕ). root (256 * v)) (rw c.from-s.ensures at c.saturating_sub-var_w2.ensures))
 
   deviation-small : c.scaled_root.result / c.args.rows.w ≤ 524280
   deviation-small =
       rw deviation-is (deviation-le c.args.rows.w c.args.sum c.args.sumsq c.requires)
 
 pub share-mean-requires : goal.share-mean-requires
-share-mean-requires c = omega (arith, mean-le c.args.rows.w c.args.sum c.args.sumsq c.requires)
+share-mean-requires c = rw c.from-s.ensures (omega (arith, mean-le c.args.rows.w c.args.sum c.args.sumsq c.requires))
 
 pub returns-then-mean-eq0 : goal.returns-then-mean-eq0
 unfolding column_wander against
-returns-then-mean-eq0 c = rw (sym c.share-mean.ensures ∙ c.if-mean-eq0.true)
+returns-then-mean-eq0 c = rw (sym (rw c.from-s.ensures at c.share-mean.ensures) ∙ c.if-mean-eq0.true)
 
 pub overflow_mul-rows : goal.overflow_mul-rows
 overflow_mul-rows c =
@@ -31,11 +31,12 @@ overflow_mul-rows c =
 
 pub overflow_mul-s : goal.overflow_mul-s
 overflow_mul-s c =
-    omega (arith, sum-squared c.args.rows.w c.args.sum c.args.sumsq c.requires, largest c.args.rows.w c.args.sum c.args.sumsq c.requires c.args.rows.few)
+    rw c.from-s.ensures
+    (omega (arith, sum-squared c.args.rows.w c.args.sum c.args.sumsq c.requires, largest c.args.rows.w c.args.sum c.args.sumsq c.requires c.args.rows.few))
 
 pub overflow_mul-var_w2 : goal.overflow_mul-var_w2
 overflow_mul-var_w2 c =
-    omega (arith, c.saturating_sub-var_w2.ensures, half-range c.args.rows.w c.args.sum c.args.sumsq c.requires, largest c.args.rows.w c.args.sum c.args.sumsq c.requires c.args.rows.few)
+    omega (arith, rw c.from-s.ensures at c.saturating_sub-var_w2.ensures, half-range c.args.rows.w c.args.sum c.args.sumsq c.requires, largest c.args.rows.w c.args.sum c.args.sumsq c.requires c.args.rows.few)
 
 pub share-std16-requires : goal.share-std16-requires
 share-std16-requires c = deviation-small c
@@ -47,13 +48,13 @@ pub overflow_mul-result : goal.overflow_mul-result
 overflow_mul-result c = omega (arith, c.share-std16.ensures, deviation-small c.before)
 
 pub overflow_cast-result-2 : goal.overflow_cast-result-2
-overflow_cast-result-2 c = omega (arith, c.share-mean.ensures, mean-le c.args.rows.w c.args.sum c.args.sumsq c.requires)
+overflow_cast-result-2 c = omega (arith, rw c.from-s.ensures at c.share-mean.ensures, mean-le c.args.rows.w c.args.sum c.args.sumsq c.requires)
 
 pub overflow_mul-result-2 : goal.overflow_mul-result-2
-overflow_mul-result-2 c = omega (arith, c.share-mean.ensures, mean-le c.args.rows.w c.args.sum c.args.sumsq c.requires)
+overflow_mul-result-2 c = omega (arith, rw c.from-s.ensures at c.share-mean.ensures, mean-le c.args.rows.w c.args.sum c.args.sumsq c.requires)
 
 pub returns : goal.returns
 unfolding column_wander
 returns c =
-    rw (c.share-std16.ensures, c.share-mean.ensures, deviation-is c.before)
-    (sym (against-mean (c.args.sum / c.args.rows.w) (deviation16 c.args.rows.w c.args.sum c.args.sumsq) (λ z. c.if-mean-eq0.false (c.share-mean.ensures ∙ z))))
+    rw (c.share-std16.ensures, rw c.from-s.ensures at c.share-mean.ensures, deviation-is c.before)
+    (sym (against-mean (c.args.sum / c.args.rows.w) (deviation16 c.args.rows.w c.args.sum c.args.sumsq) (λ z. c.if-mean-eq0.false ((rw c.from-s.ensures at c.share-mean.ensures) ∙ z))))

@@ -14,14 +14,14 @@ long number k m at = length-map (words_in k columns (drop at m)) number ∙ leng
 
 pub loop-i-init : goal.loop-i-init
 loop-i-init g c =
-    none-copied (g.N.Number.number 0) (long g.N.Number.number g.N.Number.SIZE c.args.m.now c.args.at) _ (length-replicate columns c.default-out.result)
+    none-copied (g.W.Word.number 0) (long g.W.Word.number g.W.Word.SIZE c.args.m.now c.args.at) _ (length-replicate columns c.default-out.result)
 
 pub loop-i-preserved : goal.loop-i-preserved
 loop-i-preserved g c =
-    let k = g.N.Number.SIZE in
-    copied (g.N.Number.number 0) (long g.N.Number.number k c.args.m.now c.args.at) c.loop-i.invariant c.loop-i-test.true _
-    (c.read.ensures ∙ ap (λ (size : ℕ). g.N.Number.number (le_at c.args.m.now (c.args.at + size * c.loop-i.i) k)) c.SIZE.ensures ∙ ap g.N.Number.number (word_in k columns c.args.at c.loop-i.i c.args.m.now c.loop-i-test.true)
-    ∙ sym (get_or-map g.N.Number.number (words_in k columns (drop c.args.at c.args.m.now)) c.loop-i.i 0))
+    let k = g.W.Word.SIZE in
+    copied (g.W.Word.number 0) (long g.W.Word.number k c.args.m.now c.args.at) c.loop-i.invariant c.loop-i-test.true _
+    (c.word_at.ensures ∙ ap (λ (size : ℕ). g.W.Word.number (le_at c.args.m.now (c.args.at + size * c.loop-i.i) k)) c.SIZE.ensures ∙ ap g.W.Word.number (word_in k columns c.args.at c.loop-i.i c.args.m.now c.loop-i-test.true)
+    ∙ sym (get_or-map g.W.Word.number (words_in k columns (drop c.args.at c.args.m.now)) c.loop-i.i 0))
 
 pub returns : goal.returns
-returns g c = all-copied (g.N.Number.number 0) (long g.N.Number.number g.N.Number.SIZE c.args.m.now c.args.at) c.loop-i.invariant c.loop-i-test.false
+returns g c = all-copied (g.W.Word.number 0) (long g.W.Word.number g.W.Word.SIZE c.args.m.now c.args.at) c.loop-i.invariant c.loop-i-test.false

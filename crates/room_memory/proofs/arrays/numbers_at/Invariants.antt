@@ -7,4 +7,4 @@ use Rattle.window.specs.Window.{columns}
 use Rattle.room_memory.proofs.arrays.numbers_at.Given as goal
 
 abbrev pub invariant-loop-i : goal.invariant-loop-i
-invariant-loop-i g l = Copying columns (map g.N.Number.number (words_in g.N.Number.SIZE columns (drop l.at l.m))) l.out l.i
+invariant-loop-i g l = Copying columns (map g.W.Word.number (words_in g.W.Word.SIZE columns (drop l.at l.m))) l.x-items l.i

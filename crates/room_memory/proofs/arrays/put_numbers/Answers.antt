@@ -27,14 +27,14 @@ module _ {A : Type 0} (word : A → ℕ) (k at : ℕ) (xs : List A) (m : List �
 
 pub loop-i-init : goal.loop-i-init
 loop-i-init g c =
-    none_written g.N.Number.SIZE c.args.at (map g.N.Number.word c.args.xs.now) c.args.m.now (placed g.N.Number.word g.N.Number.SIZE c.args.at c.args.xs.now c.args.m.now c.told-xs c.requires)
+    none_written g.W.Word.SIZE c.args.at (map g.W.Word.value c.args.xs.now) c.args.m.now (placed g.W.Word.value g.W.Word.SIZE c.args.at c.args.xs.now c.args.m.now c.told-xs c.requires)
 
 pub loop-i-preserved : goal.loop-i-preserved
 loop-i-preserved g c =
-    more g.N.Number.word g.N.Number.SIZE c.args.at c.args.xs.now c.args.m.now c.told-xs c.requires c.loop-i.m c.write.new.m c.loop-i.i c.SIZE.result c.index-xs-i.result c.loop-i.invariant c.loop-i-test.true c.SIZE.ensures c.index-xs-i.is c.write.ensures
+    more g.W.Word.value g.W.Word.SIZE c.args.at c.args.xs.now c.args.m.now c.told-xs c.requires c.loop-i.m c.put_word.new.s c.loop-i.i c.SIZE.result c.index-xs-i.result c.loop-i.invariant c.loop-i-test.true c.SIZE.ensures c.index-xs-i.is c.put_word.ensures
 
 pub returns : goal.returns
 returns g c =
-    all-written g.N.Number.SIZE c.args.at (map g.N.Number.word c.args.xs.now) c.args.m.now (placed g.N.Number.word g.N.Number.SIZE c.args.at c.args.xs.now c.args.m.now c.told-xs c.requires) c.loop-i.invariant
-    (omega (arith, words-long g.N.Number.word g.N.Number.SIZE c.args.at c.args.xs.now c.args.m.now c.told-xs c.requires, c.loop-i-test.false))
-    ∙ rw (words-long g.N.Number.word g.N.Number.SIZE c.args.at c.args.xs.now c.args.m.now c.told-xs c.requires)
+    all-written g.W.Word.SIZE c.args.at (map g.W.Word.value c.args.xs.now) c.args.m.now (placed g.W.Word.value g.W.Word.SIZE c.args.at c.args.xs.now c.args.m.now c.told-xs c.requires) c.loop-i.invariant
+    (omega (arith, words-long g.W.Word.value g.W.Word.SIZE c.args.at c.args.xs.now c.args.m.now c.told-xs c.requires, c.loop-i-test.false))
+    ∙ rw (words-long g.W.Word.value g.W.Word.SIZE c.args.at c.args.xs.now c.args.m.now c.told-xs c.requires)

@@ -1,8 +1,19 @@
 -- `room_memory::fields::put_detector` meets its contract. Assumes nothing.
-use Rattle.num.proofs.Parts.{front-put}
-use Rattle.room_memory.specs.Fields.{detector_bytes}
+use Prim.Native.Nat.{◌+◌, ◌%◌}
+use mathlib.Core.Path.{refl, ◌∙◌}
+use mathlib.Core.List.{append_assoc}
+use native.Mathlib.Omega.{arith}
+use Rattle.num.proofs.Parts.{front-start}
+use Rattle.room_memory.proofs.Writing.{byte-next, word-next, short-next, fields, flag-byte}
 use Rattle.room_memory.proofs.fields.put_detector.Goals as goal
 
 pub returns : goal.returns
 returns c =
-    front-put c.args.at _ (detector_bytes c.args.s) c.args.m.now _ c.detector_bytes-bytes.ensures c.put.ensures
+    let s = c.args.s in let at = c.args.at in let room = c.requires in let f₀ = front-start at c.args.m.now (omega (arith, room)) in
+    let f₁ = byte-next f₀ at refl (s.count % 256) (omega (arith, room)) in
+    let f₂ = short-next f₁ (at + 1) refl s.filled _ c.put_word.ensures in
+    let f₃ = short-next f₂ (at + 3) (omega arith) s.next _ c.put_word-2.ensures in
+    let f₄ = word-next f₃ (at + 5) (omega arith) 4 s.wander _ c.put_word-3.ensures in
+    let f₅ = byte-next f₄ (at + 9) (omega arith) c.from.result (omega (arith, room)) in
+    let f₆ = word-next f₅ (at + 10) (omega arith) 8 s.last_motion _ c.put_word-4.ensures in
+    fields f₆ (at + 18) (omega arith) ∙ rw (c.from.ensures, flag-byte s.present) (simp append_assoc)

@@ -4,5 +4,5 @@ use Rattle.room_watch.proofs.falls.step_fall.Goals as goal
 
 pub returns : goal.returns
 returns c =
-    steps c.args.config c.args.words.now c.args.verdict c.args.wander c.args.time c.from.result c.is_some.result c.try_from.result c.unwrap.result c.push_mut-event.new.self c.push_mut-event.result
-    c.in_default.not-Warming c.requires.0 c.try_from.ensures c.unwrap.ensures c.push_mut-event.ensures c.from.ensures c.is_some.ensures
+    steps c.args.config c.args.words.now c.args.verdict c.args.wander c.args.time c.from.result c.is_some.result c.phase.result c.push_mut-event.new.self c.push_mut-event.result
+    c.in_default.not-Warming c.phase.ensures c.push_mut-event.ensures c.from.ensures c.is_some.ensures

@@ -12,8 +12,9 @@ use Rattle.room_state.specs.Rings.{Rings, rings_of}
 use Rattle.fingerprint.specs.Baseline.{mean_of}
 use Rattle.fingerprint.proofs.Ranges.{distance-le}
 use Rattle.room_sensing.specs.Sensing.{bytes_refusal, features_in}
+use Rattle.room_sensing.proofs.Judged.{ranged}
 use Rattle.room_watch.proofs.Rings.{rings-joined, rings-cut, rows-long}
-use Rattle.room_watch.proofs.Feeding.{fed, rhythms-legal, few-amplitudes, few-angles}
+use Rattle.room_watch.proofs.Feeding.{fed, few-amplitudes, few-angles}
 use Rattle.room_watch.proofs.steps.feed.Goals.{After-split_at_mut-breathing}
 use Rattle.room_watch.proofs.steps.feed.Goals as goal
 
@@ -23,65 +24,66 @@ few body e ok = subst (λ (x : Features). x.count ≤ columns) (sym e) (few-ampl
 
 -- the rows, once they are cut
 module _ (c : After-split_at_mut-breathing) where
-  cut : rings_of c.args.settings.now c.args.rows.now ≡ record { presence = c.split_at_mut-presence.result.0.now; phase = c.split_at_mut-phase.result.0.now; breathing = c.split_at_mut-breathing.result.0.now; heart = c.split_at_mut-breathing.result.1.now }
+  cut : rings_of c.args.settings.now.settings c.args.rows.now ≡ record { presence = c.split_at_mut-presence.result.0.now; phase = c.split_at_mut-phase.result.0.now; breathing = c.split_at_mut-breathing.result.0.now; heart = c.split_at_mut-breathing.result.1.now }
   cut =
       let e1 = c.split_at_mut-presence.ensures in
       let e2 = c.split_at_mut-phase.ensures in
       let e3 = c.split_at_mut-breathing.ensures in
-      rings-cut c.args.settings.now c.args.rows.now _ _ _ _ _ _ c.ring_len.result c.ring_len-2.result c.ring_len-3.result c.requires.settings_value.1
+      rings-cut c.args.settings.now.settings c.args.rows.now _ _ _ _ _ _ c.ring_len.result c.ring_len-2.result c.ring_len-3.result c.requires.0
       e1.value e2.value e3.value e1.front_len e2.front_len e3.front_len c.ring_len.ensures c.ring_len-2.ensures c.ring_len-3.ensures
 
 -- a frame fits a window whose call says that it is less than the machine's words in size
 small : 144 < 9223372036854775808
 small = omega arith
 
-pub push_window-verdict-requires : goal.push_window-verdict-requires
-push_window-verdict-requires c =
+pub push-verdict-requires : goal.push-verdict-requires
+push-verdict-requires c =
     let s = c.args.s.now in (
       small,
       (
-        subst (λ (l : List ℕ). Valid presence_kind c.args.settings.now.w columns s.presence.state l s.presence.sums.sum s.presence.sums.sumsq) (ap (λ (x : Rings). x.presence) (cut (goal.at.push_window-verdict-requires c).After-split_at_mut-breathing)) c.requires.settings_value.2.presence,
-        rw c.amplitudes_of-amplitudes.ensures (few c.args.body.now c.features_in-features.ensures c.requires.body_value.0),
+        rw c.from-w.ensures (subst (λ (l : List ℕ). Valid presence_kind c.args.settings.now.settings.w columns s.presence.state l s.presence.sums.sum s.presence.sums.sumsq) (ap (λ (x : Rings). x.presence) (cut (goal.at.push-verdict-requires c).After-split_at_mut-breathing)) c.requires.1.presence),
+        rw c.frame-amplitudes.ensures (few c.args.sample.bytes.now c.features_in-features.ensures c.args.sample.fine),
       ),
     )
 
-pub push_window-other-requires : goal.push_window-other-requires
-push_window-other-requires c =
+pub push-other-requires : goal.push-other-requires
+push-other-requires c =
     let s = c.args.s.now in (
       small,
       (
-        subst (λ (l : List ℕ). Valid phase_kind c.args.settings.now.w columns s.phase.state l s.phase.sums.cos s.phase.sums.sin) (ap (λ (x : Rings). x.phase) (cut (goal.at.push_window-other-requires c).After-split_at_mut-breathing)) c.requires.settings_value.2.phase,
-        rw (c.angles_of-angles.ensures, c.phases_in-phases.ensures) (few-angles c.args.body.now c.requires.body_value.0),
+        rw c.from-w.ensures (subst (λ (l : List ℕ). Valid phase_kind c.args.settings.now.settings.w columns s.phase.state l s.phase.sums.cos s.phase.sums.sin) (ap (λ (x : Rings). x.phase) (cut (goal.at.push-other-requires c).After-split_at_mut-breathing)) c.requires.1.phase),
+        rw (c.frame-angles.ensures, c.phases_in-phases.ensures) (few-angles c.args.sample.bytes.now c.args.sample.fine),
       ),
     )
-
-pub push_rhythm-breathing-requires-clause-config : goal.push_rhythm-breathing-requires-clause-config
-push_rhythm-breathing-requires-clause-config c = (rhythms-legal c.args.settings.now c.requires.settings_value.0).0
-
-pub push_rhythm-heart-requires-clause-config : goal.push_rhythm-heart-requires-clause-config
-push_rhythm-heart-requires-clause-config c = (rhythms-legal c.args.settings.now c.requires.settings_value.0).1
 
 pub overflow_cast-result-2 : goal.overflow_cast-result-2
 overflow_cast-result-2 c = omega (arith, distance-le (mean_of c.args.s.now.baseline) c.features_in-features.result.variance, c.distance.ensures)
 
 pub returns : goal.returns
 returns c =
-    let σ = c.args.settings.now in
-    let body = c.args.body.now in
-    let p = c.push_window-verdict in
-    let pe = rw (c.from-limits.ensures, c.amplitudes_of-amplitudes.ensures) at p.ensures in
-    let q = c.push_window-other in
-    let qe = rw (c.from-limits-2.ensures, c.angles_of-angles.ensures) at q.ensures in
-    let b = c.push_rhythm-breathing in
-    let be = rw c.amplitudes_of-amplitudes.ensures at b.ensures in
-    let h = c.push_rhythm-heart in
-    let he = rw c.amplitudes_of-amplitudes.ensures at h.ensures in
-    let joined = rings-joined σ p.new.ring q.new.ring b.new.ring h.new.ring p.ensures.valid.ring.whole q.ensures.valid.ring.whole b.ensures.whole h.ensures.whole in
-    fed σ c.args.s.now _ c.args.rows.now _ body _ _ c.features_in-features.result c.phases_in-phases.result c.time_in-time.result p.result q.result b.result h.result c.step_fall.result _ c.distance.result
-    c.features_in-features.ensures c.phases_in-phases.ensures c.time_in-time.ensures (cut (goal.at.returns c).After-split_at_mut-breathing) joined
+    let σ = c.args.settings.now.settings in
+    let body = c.args.sample.bytes.now in
+    let p = c.push-verdict in
+    let pe = rw (c.from-w.ensures, c.from-limits.ensures, c.frame-amplitudes.ensures) at p.ensures in
+    let q = c.push-other in
+    let qe = rw (c.from-w.ensures, c.from-limits-2.ensures, c.frame-angles.ensures) at q.ensures in
+    let b = c.push-breath in
+    let be = rw (c.frame-amplitudes.ensures, c.from-n.ensures) at b.ensures in
+    let h = c.push-beat in
+    let he = rw (c.frame-amplitudes.ensures, c.from-n.ensures) at h.ensures in
+    let joined = rings-joined σ p.new.rows q.new.rows b.new.rows h.new.rows pe.valid.ring.whole qe.valid.ring.whole be.whole he.whole in
+    fed σ c.args.s.now _ c.args.rows.now _ body _ _ c.features_in-features.result c.phases_in-phases.result c.args.sample.time p.result q.result b.result h.result c.step_fall.result _ c.distance.result
+    c.features_in-features.ensures c.phases_in-phases.ensures c.args.sample.time_is (cut (goal.at.returns c).After-split_at_mut-breathing) joined
     (record { presence = pe; phase = qe; breathing = be; heart = he; falls = c.step_fall.ensures; tag = refl; baseline = refl })
-    c.requires.settings_value.2
-    (rows-long σ c.args.rows.now _ _ _ _ _ _ p.new.ring q.new.ring b.new.ring h.new.ring
-    c.split_at_mut-presence.ensures.value c.split_at_mut-phase.ensures.value c.split_at_mut-breathing.ensures.value p.auto.ring q.auto.ring b.auto.ring h.auto.ring)
+    c.requires.1
+    (rows-long σ c.args.rows.now _ _ _ _ _ _ p.new.rows q.new.rows b.new.rows h.new.rows
+    c.split_at_mut-presence.ensures.value c.split_at_mut-phase.ensures.value c.split_at_mut-breathing.ensures.value p.auto.rows q.auto.rows b.auto.rows h.auto.rows)
     (rw (c.either.ensures, c.rate_of.ensures, c.rate_of-2.ensures))
     c.distance.ensures
+
+-- what breathing and heart are pushed with is legal
+pub invariant_of-plan : goal.invariant_of-plan
+invariant_of-plan c = record { legal = rw c.from-n.ensures (ranged c.args.settings.now.settings c.args.settings.now.kept).breathing }
+
+pub invariant_of-plan-2 : goal.invariant_of-plan-2
+invariant_of-plan-2 c = record { legal = rw c.from-n.ensures (ranged c.args.settings.now.settings c.args.settings.now.kept).heart }

@@ -11,10 +11,10 @@ pub returns-in_err-check : goal.returns-in_err-check
 returns-in_err-check g c =
     let is : c.from_residual.result ≡ Err c.in_err-check.field-0.0 = search rules in
     rw is
-    (refused g.S.ColumnSums.kind c.args.w columns c.args.self.state c.args.rows.now (g.S.ColumnSums.firsts c.args.self.sums) (g.S.ColumnSums.seconds c.args.self.sums)
+    (refused g.S.ColumnSums.kind c.args.w columns c.args.self.now.state c.args.rows.now (g.S.ColumnSums.firsts c.args.self.now.sums) (g.S.ColumnSums.seconds c.args.self.now.sums)
     c.args.limits (g.S.ColumnSums.entries c.args.frame.now.entries) c.args.frame.now.count c.args.frame.now.time (sym c.check.ensures ∙ c.in_err-check.was))
 
 pub push-requires : goal.push-requires
 push-requires g c =
-    let p = passed g.S.ColumnSums.kind c.args.w columns c.args.self.state c.args.rows.now (g.S.ColumnSums.firsts c.args.self.sums) (g.S.ColumnSums.seconds c.args.self.sums) (sym c.check.ensures ∙ c.in_ok-check.was) in
+    let p = passed g.S.ColumnSums.kind c.args.w columns c.args.self.now.state c.args.rows.now (g.S.ColumnSums.firsts c.args.self.now.sums) (g.S.ColumnSums.seconds c.args.self.now.sums) (sym c.check.ensures ∙ c.in_ok-check.was) in
     (search rules, (p.valid, omega (arith, c.if-frame-gt-COLUMNS.false)))

@@ -7,5 +7,5 @@ use Rattle.sliding.proofs.Held.reset.Goals as goal
 
 pub returns : goal.returns
 returns g c =
-    let p = passed g.S.ColumnSums.kind c.args.w columns c.args.self.state c.args.rows.now (g.S.ColumnSums.firsts c.args.self.sums) (g.S.ColumnSums.seconds c.args.self.sums) (sym c.check.ensures ∙ c.in_ok-check.was) in
-    reset-done g.S.ColumnSums.kind c.args.w columns c.args.self.state c.args.rows.now (g.S.ColumnSums.firsts c.args.self.sums) (g.S.ColumnSums.seconds c.args.self.sums) p.window p.is-valid c.reset_state.result c.reset_state.ensures
+    let p = passed g.S.ColumnSums.kind c.args.w columns c.args.self.now.state c.args.rows.now (g.S.ColumnSums.firsts c.args.self.now.sums) (g.S.ColumnSums.seconds c.args.self.now.sums) (sym c.check.ensures ∙ c.in_ok-check.was) in
+    reset-done g.S.ColumnSums.kind c.args.w columns c.args.self.now.state c.args.rows.now (g.S.ColumnSums.firsts c.args.self.now.sums) (g.S.ColumnSums.seconds c.args.self.now.sums) p.window p.is-valid c.reset_state-self.result c.reset_state-self.ensures

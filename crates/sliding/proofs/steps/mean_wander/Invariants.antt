@@ -8,5 +8,5 @@ use Rattle.sliding.proofs.steps.mean_wander.Given as goal
 abbrev pub invariant-loop-sc : goal.invariant-loop-sc
 invariant-loop-sc g l =
     let none = g.S.ColumnSums.kind.sums.none in
-    (l.total ≡ sum_to l.sc (λ (k : ℕ). g.S.ColumnSums.term l.w (get_or (g.S.ColumnSums.firsts l.carried) k none) (get_or (g.S.ColumnSums.seconds l.carried) k none)))
+    (l.total ≡ sum_to l.sc (λ (k : ℕ). g.S.ColumnSums.term l.rows.w (get_or (g.S.ColumnSums.firsts l.carried) k none) (get_or (g.S.ColumnSums.seconds l.carried) k none)))
     × (l.total ≤ 2 ^ 32 * l.sc)

@@ -14,13 +14,14 @@ use Rattle.sliding.proofs.steps.push.Goals as goal
 -- a frame of count 0 changes nothing
 pub returns-then-frame-eq0 : goal.returns-then-frame-eq0
 returns-then-frame-eq0 g c =
-    push-none g.S.ColumnSums.kind c.args.limits c.args.w columns c.args.frame.now.count c.args.frame.now.time c.args.state c.args.rows.now (g.S.ColumnSums.entries c.args.frame.now.entries)
-    (g.S.ColumnSums.firsts c.args.sums) (g.S.ColumnSums.seconds c.args.sums) c.requires.valid
-    c.verdict_now.result c.if-frame-eq0.true (rw (← c.unit.ensures.unit) c.verdict_now.ensures)
+    push-none g.S.ColumnSums.kind c.args.limits c.args.w columns c.args.frame.now.count c.args.frame.now.time c.args.held.now.state c.args.rows.now (g.S.ColumnSums.entries c.args.frame.now.entries)
+    (g.S.ColumnSums.firsts c.args.held.now.sums) (g.S.ColumnSums.seconds c.args.held.now.sums) c.requires.valid
+    c.verdict_now.result c.if-frame-eq0.true (rw (← g.met.S.ColumnSums.unit) (rw c.UNIT.ensures at c.verdict_now.ensures))
 
-pub settled_state-out-requires-clause-by_index : goal.settled_state-out-requires-clause-by_index
-settled_state-out-requires-clause-by_index g c =
-    ring-range g.S.ColumnSums.kind.sums g.S.ColumnSums.In g.met.S.ColumnSums.columnwise.ranged c.replace_row-carried.ensures.ring_2 (λ i. (c.type_inv.rows i).fits)
+pub settled_state-held-requires-clause-ranges : goal.settled_state-held-requires-clause-ranges
+settled_state-held-requires-clause-ranges g c =
+    rw c.new-size.ensures
+    (ring-range g.S.ColumnSums.kind.sums g.S.ColumnSums.In g.met.S.ColumnSums.columnwise.ranged c.replace_row.ensures.ring_after (λ i. (c.type_inv.rows i).fits))
 
 pub returns : goal.returns
 returns g c =
@@ -28,11 +29,11 @@ returns g c =
     let laws = g.met.S.ColumnSums.columnwise in
     let long : length c.args.frame.now.entries ≡ columns = search rules in
     let b = begun c.requires.valid c.requires.count_le_columns c.if-frame-eq0.false c.start_state-start.ensures in
-    push-some K c.args.limits c.args.w columns c.args.frame.now.count c.args.frame.now.time c.args.state c.args.rows.now (g.S.ColumnSums.entries c.args.frame.now.entries)
-    (g.S.ColumnSums.firsts c.args.sums) (g.S.ColumnSums.seconds c.args.sums) c.requires.valid
+    push-some K c.args.limits c.args.w columns c.args.frame.now.count c.args.frame.now.time c.args.held.now.state c.args.rows.now (g.S.ColumnSums.entries c.args.frame.now.entries)
+    (g.S.ColumnSums.firsts c.args.held.now.sums) (g.S.ColumnSums.seconds c.args.held.now.sums) c.requires.valid
     c.requires.count_le_columns c.if-frame-eq0.false (g.met.S.ColumnSums.entrywise.long c.args.frame.now.entries ∙ long) refl c.start_state-start.ensures
-    c.replace_row-carried.ensures.ring_2 c.replace_row-carried.ensures.rows_after c.next_state-fed.ensures
-    (wander_by K g.S.ColumnSums.term c.args.w c.args.frame.now.count (g.S.ColumnSums.firsts c.replace_row-carried.result) (g.S.ColumnSums.seconds c.replace_row-carried.result)) (omega arith)
-    (λ next. ap (min K.top) (mean-carried K.sums laws.lawful g.S.ColumnSums.term c.replace_row-carried.ensures.ring_2 next c.args.frame.now.count c.requires.count_le_columns b.some-rows)
-    ∙ sym (laws.wander (window_of next c.args.w c.args.frame.now.count (ring_rows c.args.w columns c.replace_row-carried.new.rows))))
-    c.settled_state-out.ensures (rw (← c.unit-2.ensures.unit) c.verdict_now-2.ensures)
+    c.replace_row.ensures.ring_after c.replace_row.ensures.rows_after c.next_state-fed.ensures
+    (wander_by K g.S.ColumnSums.term c.args.w c.args.frame.now.count (g.S.ColumnSums.firsts c.replace_row.new.carried) (g.S.ColumnSums.seconds c.replace_row.new.carried)) (omega arith)
+    (λ next. ap (min K.top) (mean-carried K.sums laws.lawful g.S.ColumnSums.term c.replace_row.ensures.ring_after next c.args.frame.now.count c.requires.count_le_columns b.some-rows)
+    ∙ sym (laws.wander (window_of next c.args.w c.args.frame.now.count (ring_rows c.args.w columns c.replace_row.new.rows))))
+    (rw c.new-size.ensures at c.settled_state-held.ensures) (rw (← g.met.S.ColumnSums.unit) (rw c.UNIT-2.ensures at c.verdict_now-2.ensures))

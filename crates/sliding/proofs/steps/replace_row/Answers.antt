@@ -31,20 +31,20 @@ pub replace-requires-clause-holds : goal.replace-requires-clause-holds
 replace-requires-clause-holds g c =
     let laws = g.met.S.ColumnSums.columnwise in
     let long : length c.args.frame.now.entries ≡ columns = search rules in
-    let more : c.loop-sc.sc < c.args.frame.now.count = within g.met.S.ColumnSums.entrywise c.args.frame.now.entries c.args.frame.now.count long c.requires.slot_lt_w.1 c.loop-sc.sc c.loop-sc-test.true in
+    let more : c.loop-sc.sc < c.args.frame.now.count = within g.met.S.ColumnSums.entrywise c.args.frame.now.entries c.args.frame.now.count long c.requires.fits.1 c.loop-sc.sc c.loop-sc-test.true in
     rw c.entry-old.ensures
-    (ring-holds g.S.ColumnSums.kind.sums g.S.ColumnSums.In laws.ranged c.args.w columns c.loop-sc.rows c.loop-sc.invariant.bytes c.loop-sc.sc (omega (arith, c.requires.slot_lt_w))
-    laws.lawful _ _ c.loop-sc.invariant.ring c.args.slot c.requires.slot_lt_w.0)
+    (ring-holds g.S.ColumnSums.kind.sums g.S.ColumnSums.In laws.ranged c.args.w columns c.loop-sc.rows c.loop-sc.invariant.bytes c.loop-sc.sc (omega (arith, c.requires.fits))
+    laws.lawful _ _ c.loop-sc.invariant.ring c.args.slot c.requires.fits.0)
 
 pub loop-sc-preserved : goal.loop-sc-preserved
 loop-sc-preserved g c =
     let each = g.met.S.ColumnSums.entrywise in
     let long : length c.args.frame.now.entries ≡ columns = search rules in
-    let more : c.loop-sc.sc < c.args.frame.now.count = within each c.args.frame.now.entries c.args.frame.now.count long c.requires.slot_lt_w.1 c.loop-sc.sc c.loop-sc-test.true in
+    let more : c.loop-sc.sc < c.args.frame.now.count = within each c.args.frame.now.entries c.args.frame.now.count long c.requires.fits.1 c.loop-sc.sc c.loop-sc-test.true in
     write-turn g.S.ColumnSums.kind.sums g.met.S.ColumnSums.columnwise.lawful c.args.w columns c.args.slot c.args.frame.now.count (g.S.ColumnSums.entries c.args.frame.now.entries) c.args.rows.now
-    c.requires.ring.whole c.requires.slot_lt_w.0 c.requires.slot_lt_w.1 (each.long c.args.frame.now.entries ∙ long) c.loop-sc.invariant more
+    c.requires.ring.whole c.requires.fits.0 c.requires.fits.1 (each.long c.args.frame.now.entries ∙ long) c.loop-sc.invariant more
     c.put_entry.new.rows c.entry-old.result c.bits-x.result c.entry-old.ensures
-    (c.bits-x.ensures ∙ entry-is each c.args.frame.now.entries c.args.frame.now.count long c.requires.slot_lt_w.1 c.loop-sc.sc c.entry-item.result c.loop-sc-test.true c.entry-item.is)
+    (c.bits-x.ensures ∙ entry-is each c.args.frame.now.entries c.args.frame.now.count long c.requires.fits.1 c.loop-sc.sc c.entry-item.result c.loop-sc-test.true c.entry-item.is)
     c.replace.ensures c.put_entry.ensures (λ i. (c.type_inv.rows i).fits)
 
 pub returns : goal.returns
@@ -53,6 +53,6 @@ returns g c =
     record {
       rows_after =
           store-end c.args.w columns c.args.slot c.args.frame.now.count (g.S.ColumnSums.entries c.args.frame.now.entries) c.args.rows.now c.requires.ring.whole _ _ c.loop-sc.invariant.stored
-          (omega (arith, c.loop-sc-test.false, length-take-le c.args.frame.now.count c.args.frame.now.entries (omega (arith, c.requires.slot_lt_w))));
-      ring_2 = c.loop-sc.invariant.ring;
+          (omega (arith, c.loop-sc-test.false, length-take-le c.args.frame.now.count c.args.frame.now.entries (omega (arith, c.requires.fits))));
+      ring_after = c.loop-sc.invariant.ring;
     }

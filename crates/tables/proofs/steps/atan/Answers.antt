@@ -4,7 +4,7 @@ use Prim.Native.Nat.{suc, ◌-◌}
 use native.Mathlib.Omega.{arith}
 use Rattle.std.proofs.Common.{rules}
 use Rattle.tables.specs.Tables.{atan_entry, table_of}
-use Rattle.phase.proofs.Made.{made}
+use Rattle.num.proofs.Made.{made}
 use Rattle.tables.proofs.steps.atan.Goals as goal
 
 pub returns : goal.returns

@@ -1,9 +1,0 @@
--- Every frame moves on.
-use Rattle.std.proofs.Common.{◌-◌, ◌≤◌, length}
-use Rattle.replays.proofs.frames.Given as goal
-
-abbrev pub invariant-loop-at : goal.invariant-loop-at
-invariant-loop-at g l = l.at ≤ length l.bytes
-
-abbrev pub decreases-loop-at : goal.decreases-loop-at
-decreases-loop-at g l = length l.bytes - l.at

@@ -1,7 +1,0 @@
--- `sliding::steps::add_row` meets its contract: the loop of `Turns.Adding`. Assumes nothing.
-use Rattle.window.specs.Window.{columns}
-use Rattle.sliding.proofs.Turns.{Adding}
-use Rattle.sliding.proofs.steps.add_row.Given as goal
-
-abbrev pub invariant-loop-sc : goal.invariant-loop-sc
-invariant-loop-sc g l = Adding g.S.ColumnSums.kind.sums l.w columns l.slot l.rows (g.S.ColumnSums.firsts l.sums) (g.S.ColumnSums.seconds l.sums) l.sc

@@ -1,0 +1,7 @@
+-- `Summed::new` meets its contract. Assumes nothing.
+use native.Mathlib.Omega.{arith}
+use Rattle.vitals.proofs.Padded.{zero-at}
+use Rattle.vitals.proofs.steps.summed.Summed.new.Goals as goal
+
+pub invariant_of-result-clause-small : goal.invariant_of-result-clause-small
+invariant_of-result-clause-small c = λ k. rw (zero-at 129 k) (omega arith)

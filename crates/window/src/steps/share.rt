@@ -1,0 +1,35 @@
+// A number of rows, with the number that a product and a shift take in place of a division by it.
+ghost use Rattle.std.specs.Prelude.{◌≡◌, ◌/◌, ◌≤◌};
+ghost use Rattle.window.specs.Window.{max_rows, row_reciprocal, most_per_row};
+
+#[derive(Clone, Copy)]
+pub struct Rows {
+    pub w: u64,
+    pub reciprocal: u64,
+    ghost some: { 1 ≤ w },
+    ghost few: { w ≤ max_rows },
+    ghost is_reciprocal: { reciprocal ≡ row_reciprocal w },
+}
+
+// 2^45: what the reciprocal of a number of rows is scaled by.
+const SCALE: u64 = 35184372088832;
+
+impl Rows {
+    pub fn new(w: u64) -> Rows
+        requires { (1 ≤ w) × (w ≤ max_rows) }
+        ensures { result.w ≡ w }
+    {
+        Rows {
+            w,
+            reciprocal: SCALE / w + 1,
+        }
+    }
+
+    // x / w
+    pub fn share(self, x: u64) -> u64
+        requires { x / self.w ≤ most_per_row }
+        ensures { result ≡ x / self.w }
+    {
+        x * self.reciprocal / SCALE
+    }
+}
