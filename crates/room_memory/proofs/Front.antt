@@ -1,19 +1,17 @@
 -- What the header says is read in the header alone, whatever stands behind it. Assumes nothing.
 use Prim.Native.Nat.{ℕ, zero, suc, ◌+◌, ◌*◌, ◌≤◌, ◌<◌}
 use mathlib.Core.Path.{◌≡◌, refl, ap, ap₂, ◌∙◌}
-use mathlib.Core.Bool.{Bool, ◌&&◌}
+use mathlib.Core.Bool.{◌&&◌}
 use mathlib.Core.List.{List, ◌++◌, map}
 use native.Mathlib.Nat.{mul-suc}
 use native.Mathlib.Omega.{arith}
-use lib.Dec.{leb, eqb}
+use lib.Dec.{leb}
 use lib.ListN.{length, get_or, take, drop, length-drop, get_or-append}
 use lib.Seq.{take-append-le, drop-append-le}
 use Rattle.num.specs.Words.{le, le_at, words_in}
 use Rattle.num.specs.Wrap.{signed32}
 use Rattle.window.specs.Window.{columns}
-use Rattle.detector.specs.declared.State.{State}
-use Rattle.estimator.specs.declared.Progress.{Progress}
-use Rattle.room_memory.specs.Fields.{detector_len, detector_in, progress_len, progress_in, baseline_len, baseline_in, fall_len, fall_in, present_at}
+use Rattle.room_memory.specs.Fields.{detector_len, detector_in, progress_len, progress_in, present_at}
 use Rattle.room_memory.specs.Header.{tag_at, presence_at, phase_at, breathing_at, heart_at, baseline_at, fall_at, sum_at, sumsq_at, cos_at, sin_at, breathing_acc_at, heart_acc_at, header_len, state_at, flags}
 
 -- n words of k bytes at the front of a list

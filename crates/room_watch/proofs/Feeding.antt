@@ -1,12 +1,11 @@
 -- From what each detector promises to what a watched sample does: one law for each field held. Assumes nothing.
 use mathlib.Core.Path.{◌≡◌, sym, ap, subst, ◌∙◌}
-use mathlib.Core.Bool.{Bool, true, cond}
+use mathlib.Core.Bool.{Bool, cond}
 use mathlib.Core.List.{List}
 use Prim.Native.Nat.{ℕ, ◌≤◌}
 use native.Mathlib.Omega.{arith}
 use lib.ListN.{length}
 use Rattle.std.specs.Prelude.{Option, is_some}
-use Rattle.num.proofs.Logic.{both}
 use Rattle.window.specs.Window.{columns, ring_rows}
 use Rattle.csi.specs.Features.{features_of}
 use Rattle.csi.specs.declared.Features.{Features}
@@ -15,7 +14,6 @@ use Rattle.phase.specs.Phases.{frame_phases}
 use Rattle.phase.specs.declared.Phases.{Phases}
 use Rattle.phase.proofs.Shape.{frame-count}
 use Rattle.detector.specs.Detector.{Detector, detector_of}
-use Rattle.detector.specs.Calls.{is_window}
 use Rattle.detector.specs.Verdict.{either_of}
 use Rattle.detector.specs.declared.Verdict.{Verdict}
 use Rattle.estimator.specs.State.{legal, rhythm_at}
@@ -26,7 +24,6 @@ use Rattle.fall_words.specs.Stored.{phase_of}
 use Rattle.fingerprint.specs.Baseline.{mean_of, distance_from}
 use Rattle.room_memory.specs.declared.RoomState.{RoomState}
 use Rattle.room_sensing.specs.Answers.{rate_of}
-use Rattle.room_sensing.specs.Settings.{in_range}
 use Rattle.room_sensing.specs.Sensing.{Held, tag_of, time_of, iq_of, bytes_refusal, features_in, is_warming, presence_says, phase_says, presence_after, phase_after, breathing_after, heart_after, fall_after, watch, watched_finds}
 use Rattle.room_sensing.specs.declared.settings.Settings.{Settings}
 use Rattle.room_sensing.specs.declared.answer.Watched.{Watched}

@@ -4,7 +4,7 @@ use mathlib.Core.Path.{refl, ◌∙◌}
 use mathlib.Core.List.{append_assoc}
 use native.Mathlib.Omega.{arith}
 use Rattle.num.proofs.Parts.{front-start}
-use Rattle.room_memory.proofs.Writing.{byte-next, word-next, short-next, fields}
+use Rattle.room_memory.proofs.Writing.{byte-next, short-next, fields}
 use Rattle.room_memory.proofs.fields.put_progress.Goals as goal
 
 pub returns : goal.returns
