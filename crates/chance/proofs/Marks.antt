@@ -201,6 +201,9 @@ module _ (j : ℕ) where
   next-good m (Settling b p s) g = (parts m g).still
   next-good m (Refractory u) g = (parts m g).end
 
+pub next-met : (j : ℕ) (m : Mark) (p : Phase) → reached j m ≡ true → reached (suc j) (next_mark m j p) ≡ true
+next-met j m p e = met (suc j) (next_mark m j p) (next-good j m p (good j m e))
+
 pub met_next : (j : ℕ) (m : Mark) (p : Phase) → j < max_frames → reached j m ≡ true → reached max_frames (next_mark m j p) ≡ true
 met_next j m p l e = met max_frames (next_mark m j p) (later (suc j) max_frames (next_mark m j p) (omega arith) (next-good j m p (good j m e)))
 

@@ -119,8 +119,10 @@ impl Mark {
     {
         let row = place / FRAMES;
         let column = place % FRAMES;
+        if row < FRAMES {
+            return Mark::Calming(row, column);
+        }
         match row {
-            0..=23 => Mark::Calming(row, column),
             24 => Mark::Moving(column),
             25 => Mark::Bursting(column),
             26 => Mark::Lying(column),

@@ -80,8 +80,7 @@ impl VitalsEstimator {
         ensures answer { result ≡ new_answer config n rows.now }
         ensures number { answered_number result ≡ new_refusal config n rows.now }
     {
-        check_ring(rows, n, config)?;
-        Ok(Self::blank())
+        check_ring(rows, n, config).and(Ok(Self::blank()))
     }
 
     // The settings and the memory, then the state.

@@ -87,11 +87,11 @@ impl Baseline {
         ensures answer { result ≡ distance_answer self features }
         ensures number { answered_number result ≡ distance_refusal self features }
     {
-        let judged = self.check()?;
+        let sound = self.check()?;
         features.check()?;
         if features.count == 0 {
             return Ok(0);
         }
-        Ok(judged.distance(features.variance))
+        Ok(sound.distance(features.variance))
     }
 }

@@ -2,7 +2,7 @@
 #![tactic(auto)]
 
 ghost use Rattle.std.specs.Prelude.{◌≡◌};
-ghost use Rattle.measured.specs.Measured.{measured};
+ghost use Rattle.measured.specs.Measured.{measured, refused};
 
 use csi::{Features, MAX_SUBCARRIERS};
 use refusal::Refusal;
@@ -15,6 +15,23 @@ pub struct Measured {
     pub features: Features,
 }
 
+impl Measured {
+    // No features, and why by any number.
+    pub fn refused(number: u8) -> Self
+        ensures { result ≡ refused number }
+    {
+        Measured {
+            refusal: number,
+            features: Features {
+                amplitude: [0u16; MAX_SUBCARRIERS],
+                count: 0,
+                mean: 0,
+                variance: 0,
+            },
+        }
+    }
+}
+
 impl From<Result<Features, Refusal>> for Measured {
     ghost from_gives = { λ answer m. m ≡ measured answer };
 
@@ -24,15 +41,7 @@ impl From<Result<Features, Refusal>> for Measured {
                 refusal: 0,
                 features,
             },
-            Err(reason) => Measured {
-                refusal: reason.number(),
-                features: Features {
-                    amplitude: [0u16; MAX_SUBCARRIERS],
-                    count: 0,
-                    mean: 0,
-                    variance: 0,
-                },
-            },
+            Err(reason) => Measured::refused(reason.number()),
         }
     }
 }

@@ -11,6 +11,11 @@ cond-true b x y e = ap (λ (c : Bool). cond c x y) e
 pub cond-false {ℓ} : {A : Type ℓ} (b : Bool) (x y : A) → b ≡ false → cond b x y ≡ y
 cond-false b x y e = ap (λ (c : Bool). cond c x y) e
 
+-- a function of what is chosen
+pub cond-ap {ℓ ℓ'} : {A : Type ℓ} {B : Type ℓ'} (f : A → B) (b : Bool) (x y : A) → f (cond b x y) ≡ cond b (f x) (f y)
+cond-ap f true x y = refl
+cond-ap f false x y = refl
+
 -- what holds of each value as its test comes out holds of the one that is chosen
 pub cond-holds {ℓ} : {A : Type ℓ} (P : A → Type 0) (b : Bool) (x y : A) → (b ≡ true → P x) → (b ≡ false → P y) → P (cond b x y)
 cond-holds P true x y f g = f refl

@@ -23,6 +23,9 @@ first-none p k = refl
 pub record Searching (p : ℕ → Bool) (b e k : ℕ) : Type 0 where
   pub rest : first p b (e - b) ≡ first p k (e - k)
 
+pub begun : (p : ℕ → Bool) (b e : ℕ) → Searching p b e b
+begun p b e = record { rest = refl }
+
 module _ (p : ℕ → Bool) {b e k : ℕ} (h : Searching p b e k) where
   pub found : k < e → p k ≡ true → first p b (e - b) ≡ k
   found l y =

@@ -1,6 +1,7 @@
 pub mod Abs
 pub mod AddZ
 pub mod Arrays
+pub mod Building
 pub mod Byte
 pub mod Cast
 pub mod Clamp

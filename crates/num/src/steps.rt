@@ -8,7 +8,9 @@ pub fn put(src: &[u8], dst: &mut [u8])
     requires { length src.now ≤ length dst.old }
     ensures { dst.new ≡ src.now ++ drop (length src.now) dst.old }
 {
-    dst[..src.len()].copy_from_slice(src);
+    for (i, byte) in src.iter().enumerate() {
+        dst[i] = *byte;
+    }
 }
 
 // A number that stands in SIZE bytes, the lowest first.

@@ -52,8 +52,9 @@ impl Angles {
         if !(MIN_POINTS..=MAX_SUBCARRIERS).contains(&n) {
             return Err(Refusal::Count);
         }
+        let angle = self.angle;
         Ok(Phases {
-            phase: line::line_off(&self.angle[..n]),
+            phase: line::line_off(&angle[..n]),
             count: self.count,
         })
     }

@@ -1,5 +1,5 @@
 // The header read and written.
-ghost use Rattle.std.specs.Prelude.{◌≡◌, ◌++◌, length, take, drop};
+ghost use Rattle.std.specs.Prelude.{◌≡◌, ◌++◌, ◌≤◌, length, take, drop};
 ghost use Rattle.room_memory.specs.Header.{header_len, settings_len, sum_at, state_at, small_bytes, column_bytes, state_bytes, Small, flags};
 
 use crate::arrays::{numbers_at, put_numbers};
@@ -12,7 +12,15 @@ use estimator::VitalsEstimator;
 use sliding::Held;
 
 // Reads the header.
-pub fn load(m: &[u8; HEADER_LEN]) -> RoomState
+pub fn load_header(m: &[u8; HEADER_LEN]) -> RoomState
+    ensures { result ≡ state_at m.now }
+{
+    load(m)
+}
+
+// The same from a memory whose front is the header, for a caller that has tested its length.
+pub fn load(m: &[u8]) -> RoomState
+    requires { header_len ≤ length m.now }
     ensures { result ≡ state_at m.now }
 {
     RoomState {
@@ -45,8 +53,16 @@ pub fn load(m: &[u8; HEADER_LEN]) -> RoomState
 }
 
 // Whether both flags are 0 or 1.
+pub fn header_flags_valid(m: &[u8; HEADER_LEN]) -> bool
+    ensures { result ≡ flags m.now }
+{
+    flags_valid(m)
+}
+
+// The same of a memory whose front is the header.
 #[tactic(auto, unfolding(crate::specs::Header::flags))]
-pub fn flags_valid(m: &[u8; HEADER_LEN]) -> bool
+pub fn flags_valid(m: &[u8]) -> bool
+    requires { header_len ≤ length m.now }
     ensures { result ≡ flags m.now }
 {
     m[crate::PRESENCE_AT + crate::PRESENT_AT] <= 1 && m[crate::PHASE_AT + crate::PRESENT_AT] <= 1
@@ -77,8 +93,8 @@ fn store_columns(m: &mut [u8; HEADER_LEN], s: RoomState)
     put_numbers(m, crate::HEART_ACC_AT, &s.heart.acc);
 }
 
-// Writes the header behind the settings. What is stored is what `load` gives.
-pub fn store(m: &mut [u8; HEADER_LEN], s: RoomState)
+// Writes the header behind the settings. What is stored is what `load_header` gives.
+pub fn store_header(m: &mut [u8; HEADER_LEN], s: RoomState)
     requires small { Small s }
     ensures m_after { m.new ≡ take settings_len m.old ++ state_bytes s }
     ensures m_after_2 { state_at m.new ≡ s }
@@ -86,4 +102,16 @@ pub fn store(m: &mut [u8; HEADER_LEN], s: RoomState)
 {
     store_small(m, &s);
     store_columns(m, s);
+}
+
+// The same in a memory whose front is the header. What stands behind it stays.
+pub fn store(m: &mut [u8], s: RoomState)
+    requires header_len_in_bounds { header_len ≤ length m.old }
+    requires small { Small s }
+    ensures m_after { m.new ≡ take settings_len m.old ++ (state_bytes s ++ drop header_len m.old) }
+    ensures m_after_2 { state_at m.new ≡ s }
+{
+    if let Some(header) = m.first_chunk_mut::<HEADER_LEN>() {
+        store_header(header, s);
+    }
 }

@@ -1,9 +1,9 @@
 // The answer to one record, and its bytes (docs/LAYOUT.md).
 ghost use Rattle.std.specs.Prelude.{◌≡◌};
-ghost use Rattle.refusal.specs.Refusal.{number};
+ghost use Rattle.unit.specs.Answers.{refused};
 ghost use Rattle.unit.specs.Sensing.{bytes_of};
 ghost use Rattle.room_sensing.specs.Sensing.{room};
-ghost use Rattle.room_sensing.specs.Answers.{rate_bytes, refused_bytes, watched_bytes, learnt_bytes, reset_bytes, answer_of};
+ghost use Rattle.room_sensing.specs.Answers.{rate_bytes, watched_bytes, learnt_bytes, reset_bytes, answer_of};
 
 use detector::Verdict;
 use num::steps::put_word;
@@ -54,12 +54,13 @@ fn rate_bytes(rate: Rate) -> [u8; 3]
     }
 }
 
+// The bytes of the answer to a record that is refused by this number, whether or not it is one of Refusal's.
 #[tactic(auto, unfolding(crate::specs::Answers::refused_bytes))]
-fn refused_bytes(refusal: Refusal, at: usize) -> [u8; ANSWER_LEN]
-    ensures { result ≡ refused_bytes (number refusal) at }
+pub fn refused(number: u8, at: usize) -> [u8; ANSWER_LEN]
+    ensures { result ≡ bytes_of room at (refused number) }
 {
     let mut out = [0; ANSWER_LEN];
-    out[1] = refusal.number();
+    out[1] = number;
     put_word(&mut out, 2, at as u64);
     out
 }
@@ -106,7 +107,7 @@ pub fn encode(at: usize, answer: Answer) -> [u8; ANSWER_LEN]
     ensures { result ≡ bytes_of room at (answer_of answer) }
 {
     match answer {
-        Answer::Refused(refusal) => refused_bytes(refusal, at),
+        Answer::Refused(refusal) => refused(refusal.number(), at),
         Answer::Watch(w) => watched_bytes(w),
         Answer::Calibrate { frames, mean } => learnt_bytes(frames, mean),
         Answer::Reset => reset_bytes(),

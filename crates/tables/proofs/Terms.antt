@@ -10,10 +10,10 @@ use Rattle.num.proofs.Table.{below-le}
 use Rattle.tables.specs.Tables.{sine_terms, less, alternating}
 
 -- no term is above the one before it, nor so above the first
-terms-fall : (k : ℕ) → k < length sine_terms → get_or sine_terms (k + 1) 0 ≤ get_or sine_terms k 0
+pub terms-fall : (k : ℕ) → k < length sine_terms → get_or sine_terms (k + 1) 0 ≤ get_or sine_terms k 0
 terms-fall = below-le (λ k. get_or sine_terms (k + 1) 0) (λ k. get_or sine_terms k 0) (length sine_terms) tt
 
-first-most : (k : ℕ) → k < length sine_terms → get_or sine_terms k 0 ≤ get_or sine_terms 0 0
+pub first-most : (k : ℕ) → k < length sine_terms → get_or sine_terms k 0 ≤ get_or sine_terms 0 0
 first-most = below-le (λ k. get_or sine_terms k 0) (λ k. get_or sine_terms 0 0) (length sine_terms) tt
 
 -- x is the series of the terms behind those that are left

@@ -6,7 +6,7 @@ pub mod padded;
 mod part;
 mod peak;
 pub mod rate;
-mod series;
+pub mod series;
 pub mod summed;
 
 ghost use Rattle.std.specs.Prelude.{◌≡◌, true};

@@ -1,12 +1,15 @@
 // Entries and rows of a ring in memory. The caller has tested the memory's length and the places.
 ghost use Rattle.std.specs.Prelude.{◌≡◌, [], ◌+◌, ◌*◌, ◌<◌, ◌≤◌, length, get_or, set};
 ghost use Rattle.window.specs.Words.{words, put_word};
-ghost use Rattle.window.specs.Window.{columns, max_rows, ring_rows, overwrite};
+ghost use Rattle.window.specs.Window.{columns, max_rows, ring_rows, overwrite, row_reciprocal};
 
 use crate::COLUMNS;
 use num::steps::{put_word, word_at};
 
 pub mod share;
+
+// 2^45: what the reciprocal of a number of rows is scaled by.
+pub(crate) const SCALE: u64 = 35184372088832;
 
 // The entry `at`: two bytes, low byte first.
 pub fn entry(rows: &[u8], at: usize) -> u16
@@ -32,4 +35,12 @@ pub fn write_row(rows: &mut [u8], w: usize, slot: usize, new: &[u16])
     for (sc, v) in new.iter().enumerate() {
         put_entry(rows, base + sc, *v);
     }
+}
+
+// What x is multiplied by in place of a division by w, of any number of rows.
+pub fn row_reciprocal(w: u64) -> u64
+    requires { 1 ≤ w }
+    ensures { result ≡ row_reciprocal w }
+{
+    SCALE / w + 1
 }

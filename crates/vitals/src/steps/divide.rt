@@ -5,8 +5,8 @@ ghost use Rattle.vitals.specs.Divide.{inverse};
 // What to divide by, and what to multiply with instead.
 #[derive(Clone, Copy)]
 pub struct Divisor {
-    by: u32,
-    factor: u64,
+    pub by: u32,
+    pub factor: u64,
     ghost some: { 1 ≤ by },
     ghost few: { by ≤ 32767 },
     ghost exact: { factor ≡ inverse by },

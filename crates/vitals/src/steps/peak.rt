@@ -18,7 +18,7 @@ fn floor_of(global: i32) -> i32
     }
 }
 
-impl Summed {
+impl<const ROOM: usize> Summed<ROOM> {
     // Whether the value at `lag` reaches the floor and both its neighbours.
     fn is_peak(&self, lag: usize, floor: i32) -> bool
         requires { (1 ≤ lag) × (lag ≤ self.now.lags.hi) }
@@ -30,6 +30,7 @@ impl Summed {
 
     // The band's lag from 2 on of the highest value, the lowest such lag.
     fn highest(&self) -> usize
+        requires { 2 ≤ self.now.lags.hi }
         ensures { (result ≡ spec.highest self.now.by_lag (self.now.lags.hi - 2)) × (2 ≤ result) × (result ≤ self.now.lags.hi) }
     {
         let mut best = 2;
@@ -61,6 +62,7 @@ impl Summed {
 
     // The lag that the rate is read from.
     pub fn best_lag(&self) -> usize
+        requires { 2 ≤ self.now.lags.hi }
         ensures { (result ≡ best_lag self.now.by_lag self.now.lags.hi) × (2 ≤ result) × (result ≤ self.now.lags.hi) }
     {
         let top = self.highest();

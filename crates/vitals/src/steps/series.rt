@@ -8,7 +8,7 @@ ghost use Rattle.vitals.specs.Steps.{Samples, Slid, Around};
 use crate::steps::divide::Divisor;
 
 // The most samples of a series.
-pub(crate) const MAX_SAMPLES: usize = 512;
+pub const MAX_SAMPLES: usize = 512;
 
 // A sample less a mean, within the range of an i16.
 fn off(v: i16, mean: i32) -> i16

@@ -8,32 +8,31 @@ use crate::band::Lags;
 use crate::steps::energy::Energy;
 use crate::steps::padded::Padded;
 
-// The most lags that are summed: 1 to hi + 1.
+// The most lags that an estimate sums: 1 to hi + 1.
 pub const MAX_LAGS: usize = 128;
 
-// Room for the sums, by lag.
-const LAG_ROOM: usize = MAX_LAGS + 1;
+// Room for an estimate's sums, by lag.
+pub const LAG_ROOM: usize = MAX_LAGS + 1;
 
-// The sums for the lags from 1 to hi + 1, the band's lags, and how many columns are in the sums.
+// The sums for the lags from 1 to hi + 1, the band's lags, and how many columns are in the sums. There is room for the lags below ROOM.
 #[derive(Drop)]
-pub struct Summed {
-    pub by_lag: [i32; LAG_ROOM],
+pub struct Summed<const ROOM: usize> {
+    pub by_lag: [i32; ROOM],
     pub lags: Lags,
     pub used: usize,
-    ghost long: { 2 ≤ lags.hi },
-    ghost room: { lags.hi ≤ 127 },
+    ghost room: { lags.hi + 1 < ROOM },
     ghost few: { used ≤ max_subcarriers },
     ghost small: { Within (2000 * used) by_lag },
 }
 
-impl Summed {
+impl<const ROOM: usize> Summed<ROOM> {
     // The sums of no columns.
-    pub fn new(lags: Lags) -> Summed
-        requires { (2 ≤ lags.hi) × (lags.hi ≤ 127) }
+    pub fn new(lags: Lags) -> Summed<ROOM>
+        requires { lags.hi + 1 < ROOM }
         ensures { (result.lags ≡ lags) × (result.used ≡ 0) }
     {
         Summed {
-            by_lag: [0; LAG_ROOM],
+            by_lag: [0; ROOM],
             lags,
             used: 0,
         }

@@ -2,6 +2,8 @@
 ghost use Rattle.std.specs.Prelude.{◌≡◌, ◌/◌, ◌≤◌};
 ghost use Rattle.window.specs.Window.{max_rows, row_reciprocal, most_per_row};
 
+use crate::steps::SCALE;
+
 #[derive(Clone, Copy)]
 pub struct Rows {
     pub w: u64,
@@ -11,9 +13,6 @@ pub struct Rows {
     ghost is_reciprocal: { reciprocal ≡ row_reciprocal w },
 }
 
-// 2^45: what the reciprocal of a number of rows is scaled by.
-const SCALE: u64 = 35184372088832;
-
 impl Rows {
     pub fn new(w: u64) -> Rows
         requires { (1 ≤ w) × (w ≤ max_rows) }
@@ -21,7 +20,7 @@ impl Rows {
     {
         Rows {
             w,
-            reciprocal: SCALE / w + 1,
+            reciprocal: crate::steps::row_reciprocal(w),
         }
     }
 

@@ -37,7 +37,7 @@ returns-in-Some c =
     let whole : length c.put.new.dst ≡ header_len = c.put.auto.dst ∙ ap length k.same ∙ length-take-le header_len z k.enough in
     begun-memory g (c.put.new.dst ++ drop header_len z) _ c.requires.given.0
     (ap (λ (l : List ℕ). l ++ drop header_len z) put ∙ settings-put g z long k.enough ∙ ap (λ (l : List ℕ). g ++ drop settings_len l) zeros)
-    (stored c.put.new.dst c.store.new.m (drop header_len z) c.fresh.result whole (c.store.ensures.long ∙ sym whole) c.store.ensures.m_after ∙ rw (c.fresh.ensures, c.requires.w_value))
+    (stored c.put.new.dst c.store_header.new.m (drop header_len z) c.fresh.result whole (c.store_header.ensures.long ∙ sym whole) c.store_header.ensures.m_after ∙ rw (c.fresh.ensures, c.requires.w_value))
 
 pub returns-in_default : goal.returns-in_default
 returns-in_default c = absurd (omega (arith, c.in_default.ensures.cases, begin-long c.args.given.now (length c.args.memory.now) c.requires.given.1, c.clear.auto.rows))

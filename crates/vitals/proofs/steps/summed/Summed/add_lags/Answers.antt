@@ -22,7 +22,7 @@ stored a b r x e f h l =
     rw (e, f, read-abs w32 b (omega (arith, h)), read-abs w32 x (omega (arith, l))) (read-abs w32 (b +ℤ x) (omega (arith, abs-add b x, h, l)))
 
 pub invariant_of-self-in-loop-lag-clause-small : goal.invariant_of-self-in-loop-lag-clause-small
-invariant_of-self-in-loop-lag-clause-small c =
+invariant_of-self-in-loop-lag-clause-small g c =
     let k = c.loop-lag.lag in let s = c.args.self.now in let x = corr_of c.args.series.now k in
     let size = corr-size c.args.series.now k in
     each_set (λ (z : ℤ). nat_abs z ≤ 2000 * c.loop-lag.self.used) c.loop-lag.self.by_lag k _ (pos 0)
@@ -31,7 +31,7 @@ invariant_of-self-in-loop-lag-clause-small c =
     c.loop-lag.self.small
 
 pub loop-lag-preserved : goal.loop-lag-preserved
-loop-lag-preserved c =
+loop-lag-preserved g c =
     let k = c.loop-lag.lag in let s = c.args.self.now in let x = corr_of c.args.series.now k in (
       c.loop-lag.invariant.0,
       c.loop-lag.invariant.1,

@@ -7,7 +7,7 @@ use Rattle.vitals.specs.Correlation.{corr_of}
 use Rattle.vitals.proofs.steps.summed.Summed.add_lags.Given as goal
 
 abbrev pub invariant-loop-lag : goal.invariant-loop-lag
-invariant-loop-lag l =
+invariant-loop-lag g l =
     (l.self.lags ≡ l.fn.self.lags) × (l.self.used ≡ l.fn.self.used + 1) ×
     ((k : ℕ) → k < l.lag → 1 ≤ k → at l.self.by_lag k ≡ at l.fn.self.by_lag k +ℤ corr_of l.series k) ×
     ((k : ℕ) → l.lag ≤ k → at l.self.by_lag k ≡ at l.fn.self.by_lag k) × (at l.self.by_lag 0 ≡ at l.fn.self.by_lag 0)

@@ -29,14 +29,14 @@ unfolding peak_or
 past s hi floor b {k} e h = rw (e, lt-leb k hi h)
 
 pub loop-lag-preserved : goal.loop-lag-preserved
-loop-lag-preserved c = (
+loop-lag-preserved g c = (
   omega arith,
   omega arith,
   passed _ c.loop-lag.invariant.2 (omega arith) (sym c.is_peak.ensures ∙ c.if-is_peak.false),
 )
 
 pub returns-then-lag-self : goal.returns-then-lag-self
-returns-then-lag-self c = (
+returns-then-lag-self g c = (
   sym
       (past c.args.self.now.by_lag c.args.self.now.lags.hi c.args.floor c.args.top
       (as-held c.args.self.now.by_lag c.args.floor c.args.self.now.lags.hi c.ranges.floor ∙
@@ -47,7 +47,7 @@ returns-then-lag-self c = (
 )
 
 pub returns-then-is_peak : goal.returns-then-is_peak
-returns-then-is_peak c = (
+returns-then-is_peak g c = (
   sym
       (inside c.args.self.now.by_lag c.args.self.now.lags.hi c.args.floor c.args.top
       (as-held c.args.self.now.by_lag c.args.floor c.args.self.now.lags.hi c.ranges.floor ∙

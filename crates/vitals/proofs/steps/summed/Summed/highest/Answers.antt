@@ -41,10 +41,10 @@ after s k b h q e = ap (λ (t : Bool). cond (not t) b k) (sym e) ∙ sym (more s
 
 pub loop-lag-init : goal.loop-lag-init
 unfolding highest
-loop-lag-init c = (omega arith, omega arith, refl)
+loop-lag-init g c = (omega arith, omega arith, refl)
 
 pub loop-lag-preserved : goal.loop-lag-preserved
-loop-lag-preserved c = elim c.if-self-best.branch [
+loop-lag-preserved g c = elim c.if-self-best.branch [
   | then-self-best w ↦ (omega arith, omega arith, w.best-is ∙ after c.args.self.now.by_lag c.loop-lag.lag c.loop-lag.best {t = true} (omega arith) c.loop-lag.invariant.2 (let h = w.if-self-best.true in search rules))
   | else-self-best w ↦ (omega arith, omega arith, w.best-is ∙ after c.args.self.now.by_lag c.loop-lag.lag c.loop-lag.best {t = false} (omega arith) c.loop-lag.invariant.2 (let h = w.if-self-best.false in search rules))
 ]

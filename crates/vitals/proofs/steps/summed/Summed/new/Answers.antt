@@ -4,4 +4,4 @@ use Rattle.vitals.proofs.Padded.{zero-at}
 use Rattle.vitals.proofs.steps.summed.Summed.new.Goals as goal
 
 pub invariant_of-result-clause-small : goal.invariant_of-result-clause-small
-invariant_of-result-clause-small c = λ k. rw (zero-at 129 k) (omega arith)
+invariant_of-result-clause-small g c = λ k. rw (zero-at g.row.ROOM k) (omega arith)

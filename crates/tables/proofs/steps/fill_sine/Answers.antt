@@ -1,14 +1,15 @@
--- `tables::steps::sine` meets its contract. Assumes nothing.
+-- `tables::steps::fill_sine` meets its contract. Assumes nothing.
 use mathlib.Core.Path.{◌≡◌}
 use Prim.Native.Nat.{suc, ◌-◌}
 use native.Mathlib.Omega.{arith}
 use Rattle.std.proofs.Common.{rules}
+use Rattle.num.proofs.Lists.{built}
 use Rattle.tables.specs.Tables.{sine_entry, table_of}
-use Rattle.num.proofs.Made.{made}
-use Rattle.tables.proofs.steps.sine.Goals as goal
+use Rattle.tables.proofs.steps.fill_sine.Goals as goal
 
 pub returns : goal.returns
 unfolding table_of
 returns g c =
     let whole : suc (g.row.N - 1) ≡ g.row.N = omega (arith, c.requires) in
-    rw whole (made _ _ g.row.N (sine_entry (g.row.N - 1)) (λ i r q l k. search rules) _ c.from_fn.ensures.items)
+    let (long, each) = c.fill.ensures in
+    rw whole (built 0 _ g.row.N (sine_entry (g.row.N - 1)) long (λ k h. let e = each k h in search rules))
