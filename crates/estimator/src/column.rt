@@ -12,7 +12,7 @@ ghost use Rattle.estimator.specs.Steps.{Read, blocks_in};
 use crate::view::View;
 use vitals::band::Lags;
 use vitals::steps::padded::Padded;
-use vitals::steps::summed::{LAG_ROOM, Summed};
+use vitals::steps::summed::{LAG_ROOM, LagSums};
 use window::COLUMNS;
 
 // The entry `at`, a signed number.
@@ -51,7 +51,7 @@ fn add_column(
     m: usize,
     a: &mut Padded,
     b: &mut Padded,
-    summed: &mut Summed<LAG_ROOM>,
+    summed: &mut LagSums<LAG_ROOM>,
 )
     requires n_bound { (sc < view.count) × (length a.old ≡ view.n) × (length b.old ≡ view.n) }
     requires sums { (summed.old.lags.hi + 1 < view.n) × (summed.old.used ≤ sc) }
@@ -69,14 +69,14 @@ fn add_column(
 }
 
 // The correlations of all columns, summed.
-pub(crate) fn sum_columns(view: View<'_>, m: usize, lags: Lags) -> Summed<LAG_ROOM>
+pub(crate) fn sum_columns(view: View<'_>, m: usize, lags: Lags) -> LagSums<LAG_ROOM>
     requires { (lags.hi ≤ 127) × (lags.hi + 1 < view.n) }
     ensures count { (result.lags ≡ lags) × (result.used ≡ length (columns_of m (blocks_in view.entry))) }
     ensures sums { (k : ℕ) → k ≤ lags.hi + 1 → at result.by_lag k ≡ at (curve (columns_of m (blocks_in view.entry)) lags.hi) k }
 {
     let mut a = Padded::zeros(view.n);
     let mut b = Padded::zeros(view.n);
-    let mut summed = Summed::new(lags);
+    let mut summed = LagSums::new(lags);
     for sc in 0..view.count {
         add_column(view, sc, m, &mut a, &mut b, &mut summed);
     }

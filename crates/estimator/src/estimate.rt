@@ -13,7 +13,7 @@ use crate::view::View;
 use crate::{Progress, Vitals, VitalsEstimator};
 use vitals::band::Lags;
 use vitals::config::VitalsConfig;
-use vitals::steps::summed::{LAG_ROOM, MAX_LAGS, Summed};
+use vitals::steps::summed::{LAG_ROOM, LagSums, MAX_LAGS};
 
 // No rate, no confidence.
 fn empty(time: u64) -> Vitals
@@ -29,7 +29,7 @@ fn empty(time: u64) -> Vitals
 }
 
 // What is read from the summed correlations.
-fn read_off(summed: &Summed<LAG_ROOM>, config: VitalsConfig, time: u64) -> Vitals
+fn read_off(summed: &LagSums<LAG_ROOM>, config: VitalsConfig, time: u64) -> Vitals
     requires { (2 ≤ summed.now.lags.hi) × (1 ≤ summed.now.used) × (config.rate_hz ≤ 1000) }
     ensures { result ≡ read_at config time summed.now.lags.lo summed.now.lags.hi summed.now.used summed.now.by_lag (best_lag summed.now.by_lag summed.now.lags.hi) }
 {

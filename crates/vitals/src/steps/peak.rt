@@ -4,7 +4,7 @@ ghost use Rattle.vitals.specs.Peak as spec;
 ghost use Rattle.vitals.specs.Peak.{is_peak, peak_or, floor_of, best_lag};
 ghost use Rattle.vitals.specs.Steps.{most_summed};
 
-use crate::steps::summed::Summed;
+use crate::steps::summed::{LagSums, Summed};
 
 // What a peak has to reach.
 fn floor_of(global: i32) -> i32
@@ -18,7 +18,7 @@ fn floor_of(global: i32) -> i32
     }
 }
 
-impl<const ROOM: usize> Summed<ROOM> {
+impl<const ROOM: usize> LagSums<ROOM> {
     // Whether the value at `lag` reaches the floor and both its neighbours.
     fn is_peak(&self, lag: usize, floor: i32) -> bool
         requires { (1 ≤ lag) × (lag ≤ self.now.lags.hi) }
@@ -67,5 +67,14 @@ impl<const ROOM: usize> Summed<ROOM> {
     {
         let top = self.highest();
         self.first_peak(floor_of(self.by_lag[top]), top)
+    }
+}
+
+impl Summed {
+    // The lag that the rate is read from.
+    pub fn best_lag(&self) -> usize
+        ensures { (result ≡ best_lag self.now.by_lag self.now.lags.hi) × (2 ≤ result) × (result ≤ self.now.lags.hi) }
+    {
+        self.lag_sums().best_lag()
     }
 }

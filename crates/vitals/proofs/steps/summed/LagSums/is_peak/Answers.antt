@@ -11,7 +11,7 @@ use Rattle.num.specs.Limits.{max_subcarriers}
 use Rattle.num.proofs.Read.{read-abs}
 use Rattle.vitals.specs.Series.{at}
 use Rattle.vitals.specs.Steps.{Within}
-use Rattle.vitals.proofs.steps.summed.Summed.is_peak.Goals as goal
+use Rattle.vitals.proofs.steps.summed.LagSums.is_peak.Goals as goal
 
 -- a sum of a few columns' correlations, as it is read
 read : (s : List ℤ) (used k : ℕ) → used ≤ max_subcarriers → Within (2000 * used) s → to_z w32 (of_z w32 (at s k)) ≡ at s k

@@ -1,7 +1,7 @@
 use Prim.Native.Nat.{◌+◌, ◌≤◌, ◌-◌}
 use Rattle.vitals.specs.Peak.{is_peak}
 use Rattle.num.proofs.First.{Searching}
-use Rattle.vitals.proofs.steps.summed.Summed.first_peak.Given as goal
+use Rattle.vitals.proofs.steps.summed.LagSums.first_peak.Given as goal
 
 abbrev pub invariant-loop-lag : goal.invariant-loop-lag
 invariant-loop-lag g l =

@@ -1,10 +1,10 @@
--- `Summed::add_lags` meets its contract: the lags below `lag` are done, those from it on are as they were. Assumes nothing.
+-- `LagSums::add_lags` meets its contract: the lags below `lag` are done, those from it on are as they were. Assumes nothing.
 use mathlib.Core.Path.{◌≡◌}
 use Prim.Native.Nat.{ℕ, ◌+◌, ◌≤◌, ◌<◌}
 use lib.IntN.{◌+ℤ◌}
 use Rattle.vitals.specs.Series.{at}
 use Rattle.vitals.specs.Correlation.{corr_of}
-use Rattle.vitals.proofs.steps.summed.Summed.add_lags.Given as goal
+use Rattle.vitals.proofs.steps.summed.LagSums.add_lags.Given as goal
 
 abbrev pub invariant-loop-lag : goal.invariant-loop-lag
 invariant-loop-lag g l =

@@ -12,8 +12,8 @@ use lib.Signed.{lt_z, le_z}
 use Rattle.std.proofs.Common.{rules}
 use Rattle.vitals.specs.Series.{at}
 use Rattle.vitals.specs.Peak.{highest}
-use Rattle.vitals.proofs.steps.summed.Summed.highest.Goals as goal
-use Rattle.vitals.proofs.steps.summed.Summed.highest.Goals.{then-self-best, else-self-best}
+use Rattle.vitals.proofs.steps.summed.LagSums.highest.Goals as goal
+use Rattle.vitals.proofs.steps.summed.LagSums.highest.Goals.{then-self-best, else-self-best}
 
 at-most : (a b : ℕ) → leb b a ≡ not (ltb a b)
 at-most a b = go (dec_lt a b)

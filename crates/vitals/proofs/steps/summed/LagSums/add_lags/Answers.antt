@@ -1,4 +1,4 @@
--- `Summed::add_lags` meets its contract: the lags below `lag` are done, those from it on are as they were. Assumes nothing.
+-- `LagSums::add_lags` meets its contract: the lags below `lag` are done, those from it on are as they were. Assumes nothing.
 use mathlib.Core.Path.{◌≡◌, ◌∙◌}
 use Prim.Native.Nat.{ℕ, ◌*◌, ◌≤◌}
 use native.Mathlib.Omega.{arith}
@@ -14,7 +14,7 @@ use Rattle.vitals.specs.Series.{at}
 use Rattle.vitals.specs.Correlation.{corr_of}
 use Rattle.vitals.specs.Steps.{most_summed}
 use Rattle.vitals.proofs.Lagged.{corr-size}
-use Rattle.vitals.proofs.steps.summed.Summed.add_lags.Goals as goal
+use Rattle.vitals.proofs.steps.summed.LagSums.add_lags.Goals as goal
 
 -- the sum a, which is b, and the correlation r, which is x, as they are stored
 stored : (a b r x : ℤ) → a ≡ b → r ≡ x → nat_abs b ≤ most_summed → nat_abs x ≤ 2000 → to_z w32 (of_z w32 (to_z w32 (of_z w32 a) +ℤ to_z w32 (of_z w32 r))) ≡ b +ℤ x

@@ -10,7 +10,7 @@ use mir.Val.{SFits, to_z, of_z}
 use Rattle.num.specs.Lists.{first}
 use Rattle.vitals.specs.Peak.{is_peak, peak_or}
 use Rattle.num.proofs.First.{found, passed, over}
-use Rattle.vitals.proofs.steps.summed.Summed.first_peak.Goals as goal
+use Rattle.vitals.proofs.steps.summed.LagSums.first_peak.Goals as goal
 
 -- a search over a floor is one over what a local holds of it
 as-held : (s : List ℤ) (g : ℤ) (hi : ℕ) → SFits w32 g → first (is_peak s g) 2 (hi - 1) ≡ first (is_peak s (to_z w32 (of_z w32 g))) 2 (hi + 1 - 2)
